@@ -1,0 +1,4 @@
+pub mod Limits
+pub mod Paper
+pub mod Value
+pub mod Tests
