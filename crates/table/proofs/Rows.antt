@@ -17,7 +17,7 @@ use Rattle.words.proofs.Choice.{and-true, and-false, and-last-false, and-same, 
 use Rattle.table.specs.declared.Row.{Row as RowValue}
 use Rattle.table.specs.Limits.{longestName, largestNumber, mostTimes}
 use Rattle.table.specs.Paper.{nameByte, rightName, rightNumber, rightCount, rightRow}
-use Rattle.table.specs.Value.{ticks, long, rowOf, nameIn}
+use Rattle.table.specs.Value.{noValue, ticks, long, rowOf, nameIn}
 use Rattle.table.specs.Tests.{ended, rightValue, waitsValue, rowsTest}
 
 -- a row's times as numbers
@@ -126,10 +126,6 @@ row-is v n k {times = times₀} {f = f₀} {g = g₀} long-is a each-is b count-
         let short = ap not long-is ∙ not-ltb (v .deadline .0) (sum (map ticks (v .times)))
         ∙ ap (λ (z : ℕ). leb z (v .deadline .0)) (sum-ended (map ticks (v .times)) (rw m at h)) in
         f ∙ rw (front-is, e, number₁-is, d, number₂-is, c, count-is, k, b, each-is, l, a, short)
-
--- what the default of a row in a list is, where code takes one out of an array
-abbrev pub noValue : RowValue
-noValue = record { name = []; period = long 0; deadline = long 0; times = [] }
 
 -- the row at i among the first n
 

@@ -17,9 +17,9 @@ use Rattle.table.specs.declared.Row.{Row as RowValue}
 use Rattle.table.specs.declared.Table.{Table as TableValue}
 use Rattle.table.specs.Limits.{mostRows, mostTimes, longestName, largestNumber}
 use Rattle.table.specs.Paper.{Row, Table, nameByte, rightName, rightNumber, rightCount, rightRow, waits, named, rightRows, rightTable}
-use Rattle.table.specs.Value.{ticks, long, rowOf, tableOf, rowValue, emptyRow, tableValue, nameIn, sameRow, sameRows, wellFormed}
+use Rattle.table.specs.Value.{noValue, ticks, long, rowOf, tableOf, rowValue, emptyRow, tableValue, nameIn, sameRow, sameRows, wellFormed}
 use Rattle.table.specs.Tests.{ended, rightValue, unused, waitsValue, rowsTest}
-use Rattle.table.proofs.Rows.{noValue, times-length}
+use Rattle.table.proofs.Rows.{times-length}
 
 -- a row on paper, and what its rules say
 
@@ -86,7 +86,7 @@ times-lack ts e = all-weaker rightNumber (λ x. not (eqb x 0)) number-not-zero t
 
 -- a row's value, there and back
 
-ticks-long : (ts : List ℕ) → map ticks (map long ts) ≡ ts
+pub ticks-long : (ts : List ℕ) → map ticks (map long ts) ≡ ts
 ticks-long [] = refl
 ticks-long (t ∷ ts) = ap (λ (l : List ℕ). t ∷ l) (ticks-long ts)
 

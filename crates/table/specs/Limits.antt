@@ -24,3 +24,7 @@ largestNumber = 1000000
 -- bytes of a text
 abbrev pub longestText : ℕ
 longestText = 1360
+
+-- ticks of a full run
+abbrev pub mostTicks : ℕ
+mostTicks = largestNumber

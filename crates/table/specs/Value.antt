@@ -42,6 +42,10 @@ rowValue r =
 abbrev pub emptyRow : RowValue
 emptyRow = record { name = replicate longestName 0; period = long 0; deadline = long 0; times = replicate mostTimes (long 0) }
 
+-- what a list of row values gives where it has none
+abbrev pub noValue : RowValue
+noValue = record { name = []; period = long 0; deadline = long 0; times = [] }
+
 -- the value of a table: rows that are not used behind its own
 unfoldable pub tableValue : Table → TableValue
 tableValue t = record { rows = map rowValue t ++ replicate (mostRows - length t) emptyRow; len = length t }

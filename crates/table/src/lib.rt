@@ -113,6 +113,9 @@ impl Table {
     // The most bytes of a text.
     pub const TEXT: usize = 1_360;
 
+    // The most ticks of a full run.
+    pub const TICKS: u64 = Table::NUMBER;
+
     pub fn empty() -> Self
         ensures { λ r. ⌜ r ≡ emptyTable ⌝ }
     {

@@ -1,7 +1,7 @@
 -- Lists of numbers and of rows.
 use mathlib.Core.Bool.{Bool, true, false}
 use mathlib.Core.List.{List, [], _∷_, _++_}
-use Prim.Native.Nat.{ℕ, _+_, _-_}
+use Prim.Native.Nat.{ℕ, zero, suc, _+_, _-_}
 use lib.Dec.{eqb}
 use lib.ListN.{length, replicate}
 use Rattle.words.specs.Choice.{if_then_else_, _and_, _or_}
@@ -40,3 +40,8 @@ upTo b (x ∷ xs) = if eqb x b then [] else x ∷ upTo b xs
 -- n numbers: xs, and zeros behind it
 unfoldable pub padded : ℕ → List ℕ → List ℕ
 padded n xs = xs ++ replicate (n - length xs) 0
+
+-- the numbers 0 to n - 1
+unfoldable pub below : ℕ → List ℕ
+below zero = []
+below (suc n) = below n ++ (n ∷ [])

@@ -7,8 +7,8 @@ use borrow.Author.Needs.{needs}
 use lib.ListN.{length, getD, take, drop}
 use Rattle.words.specs.Lists.{same}
 use Rattle.words.proofs.Choice.{or-true, or-false}
-use Rattle.table.specs.Value.{nameIn}
-use Rattle.table.proofs.Rows.{noValue, name-in-at, name-in-end}
+use Rattle.table.specs.Value.{noValue, nameIn}
+use Rattle.table.proofs.Rows.{name-in-at, name-in-end}
 use Rattle.table.proofs.named.Statement.{statement}
 use Rattle.table.proofs.named.Tie as tie
 

@@ -9,8 +9,8 @@ use lib.ListN.{length, getD, drop}
 use Rattle.words.specs.Lists.{all}
 use Rattle.words.proofs.Choice.{and-true, and-false}
 use Rattle.words.proofs.Lists.{all-at, all-end}
+use Rattle.table.specs.Value.{noValue}
 use Rattle.table.specs.Tests.{unused}
-use Rattle.table.proofs.Rows.{noValue}
 use Rattle.table.proofs.rest_unused.Statement.{statement}
 use Rattle.table.proofs.rest_unused.Tie as tie
 

@@ -9,9 +9,9 @@ use borrow.Author.Tests.{not-true, not-false}
 use lib.ListN.{length, getD, take, drop}
 use Rattle.words.specs.Lists.{any}
 use Rattle.words.proofs.Choice.{and-true, and-false}
-use Rattle.table.specs.Value.{nameIn}
+use Rattle.table.specs.Value.{noValue, nameIn}
 use Rattle.table.specs.Tests.{rightValue, waitsValue, rowsTest}
-use Rattle.table.proofs.Rows.{noValue, rows-test-at, rows-test-end, waits-next}
+use Rattle.table.proofs.Rows.{rows-test-at, rows-test-end, waits-next}
 use Rattle.table.proofs.rows_right.Statement.{statement}
 use Rattle.table.proofs.rows_right.Tie as tie
 

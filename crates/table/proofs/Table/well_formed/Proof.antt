@@ -8,8 +8,8 @@ use borrow.Author.Tests.{not-true, not-false}
 use lib.ListN.{length, take, getD, length-map, List·getD-map}
 use Rattle.words.proofs.Choice.{and-true, and-false}
 use Rattle.words.proofs.Known.{each-at}
+use Rattle.table.specs.Value.{noValue}
 use Rattle.table.specs.Tests.{rowsTest}
-use Rattle.table.proofs.Rows.{noValue}
 use Rattle.table.proofs.Rules.{AllSized, all-sized, size-wrong, tests-are}
 use Rattle.table.proofs.Row as row
 use borrow.Author.Needs.{needs}

@@ -1,0 +1,9 @@
+pub mod Arrivals
+pub mod Recurrence
+pub mod Rows
+pub mod Verdicts
+pub mod Values
+pub mod Counting
+pub mod Steps
+pub mod Split
+pub mod Tables

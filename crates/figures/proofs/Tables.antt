@@ -1,0 +1,167 @@
+-- From a well-formed table value to the rows on paper, and the table's verdict and answers, row by row.
+use mathlib.Core.Path.{_≡_, refl, sym, ap, _∙_}
+use mathlib.Core.Bool.{Bool, true, false, false≢true}
+use mathlib.Core.List.{List, [], _∷_, _++_, map}
+use Prim.Native.Nat.{ℕ, zero, suc, _+_, _-_, _≤_, _<_}
+use native.Mathlib.Omega.{arith}
+use native.Mathlib.Numerals.{add-one}
+use lib.ListN.{length, getD, set, replicate, length-append, length-map}
+use lib.Seq.{set-append-seam, append-snoc}
+use Rattle.words.specs.Choice.{if_then_else_, _and_, _or_}
+use Rattle.words.specs.Lists.{all, any, upTo, below}
+use Rattle.words.proofs.Choice.{and-parts, or-nothing}
+use Rattle.words.proofs.Lists.{all-each}
+use Rattle.table.specs.Limits.{mostRows}
+use Rattle.table.specs.Paper.{Row, Table, rowAt, rightRow}
+use Rattle.table.specs.Value.{noValue, rowOf, rowValue, emptyRow, tableOf, tableValue, wellFormed}
+use Rattle.table.specs.declared.Row.{Row as RowValue}
+use Rattle.table.specs.declared.Table.{Table as TableValue}
+use Rattle.table.proofs.Rules.{row-back, value-forth, table-right, table-size}
+use Rattle.figures.specs.declared.Verdict.{Verdict}
+use Rattle.figures.specs.declared.Verdict.the-variants.{Fits, Misses, Open}
+use Rattle.figures.specs.declared.TableVerdict.{TableVerdict}
+use Rattle.figures.specs.declared.TableVerdict.the-variants.{Fits as TableFits, Misses as TableMisses, Open as TableOpen}
+use Rattle.figures.specs.Figures.{verdict}
+use Rattle.figures.specs.Answers.{fits, misses, verdicts, tableVerdict, joinedOf}
+use Rattle.figures.specs.Work.{rowsOf, Kept}
+
+-- the rows of a value, in use or not, stand for the rows on paper
+row-there : (t : Table) (m : ℕ) → all rightRow t ≡ true → (i : ℕ) → rowOf (getD (map rowValue t ++ replicate m emptyRow) i noValue) ≡ rowAt t i
+unfolding upTo all
+row-there [] zero e i = refl
+row-there [] (suc m) e zero = refl
+row-there [] (suc m) e (suc i) = row-there [] m e i
+row-there (r ∷ t) m e zero = row-back r (and-parts e .0)
+row-there (r ∷ t) m e (suc i) = row-there t m (and-parts e .1) i
+
+value-there : (t : Table) (m i : ℕ) → i < length t → getD (map rowValue t ++ replicate m emptyRow) i noValue ≡ rowValue (rowAt t i)
+value-there [] m i h = absurd (omega arith)
+value-there (r ∷ t) m zero h = refl
+value-there (r ∷ t) m (suc i) h = value-there t m i (omega arith)
+
+module _ (v : TableValue) (ok : wellFormed v ≡ true) where
+  there : v .rows ≡ map rowValue (tableOf v) ++ replicate (mostRows - length (tableOf v)) emptyRow
+  unfolding tableValue
+  there = ap (λ (w : TableValue). w .rows) (value-forth v ok .0)
+
+  -- the rows that the values stand for are those of the table on paper
+  pub rows-same : rowsOf (v .rows) ≡ rowAt (tableOf v)
+  rows-same =
+      λ j i. (ap (λ (l : List RowValue). rowOf (getD l i noValue)) there
+      ∙ row-there (tableOf v) (mostRows - length (tableOf v)) (table-right (tableOf v) (value-forth v ok .1)) i) j
+
+  -- the count is right
+  pub len-is : v .len ≡ length (tableOf v)
+  unfolding tableValue
+  len-is = ap (λ (w : TableValue). w .len) (value-forth v ok .0)
+
+  pub len-most : v .len ≤ mostRows
+  len-most = omega (arith, len-is, table-size (tableOf v) (value-forth v ok .1) .1)
+
+  -- each row in use is kept
+  pub row-kept : (i : ℕ) → i < v .len → Kept (getD (v .rows) i noValue)
+  row-kept i h =
+      let l : i < length (tableOf v) = omega (arith, len-is) in
+      let e : getD (v .rows) i noValue ≡ rowValue (rowAt (tableOf v) i)
+      = ap (λ (l : List RowValue). getD l i noValue) there ∙ value-there (tableOf v) (mostRows - length (tableOf v)) i l in
+      let p : rowOf (getD (v .rows) i noValue) ≡ rowAt (tableOf v) i = λ j. rows-same j i in
+      record {
+        value = e ∙ ap rowValue (sym p);
+        right = ap rightRow p ∙ all-each rightRow (tableOf v) (table-right (tableOf v) (value-forth v ok .1)) i _ l;
+      }
+
+-- the table's verdict after the first n rows
+abbrev pub verdictOf : (ℕ → Row) → ℕ → TableVerdict
+verdictOf rows zero = TableFits
+verdictOf rows (suc n) = joinedOf (verdictOf rows n) (verdict rows n)
+
+abbrev status : Bool → Bool → TableVerdict
+status a m = if a then TableFits else if m then TableMisses else TableOpen
+
+status-next : (a m : Bool) (x : Verdict) → (a ≡ true → m ≡ false) → joinedOf (status a m) x ≡ status (a and fits x) (m or misses x)
+unfolding _and_ _or_
+status-next true true x h = absurd (false≢true (sym (h refl)))
+status-next true false (Fits b r) h = refl
+status-next true false Misses h = refl
+status-next true false Open h = refl
+status-next false true (Fits b r) h = refl
+status-next false true Misses h = refl
+status-next false true Open h = refl
+status-next false false (Fits b r) h = refl
+status-next false false Misses h = refl
+status-next false false Open h = refl
+
+all-snoc : {A : Type 0} (test : A → Bool) (xs : List A) (y : A) → all test (xs ++ (y ∷ [])) ≡ (all test xs and test y)
+unfolding all _and_
+all-snoc test [] y = last (test y)
+  where
+    last : (b : Bool) → (b and true) ≡ b
+    last true = refl
+    last false = refl
+all-snoc test (x ∷ xs) y = go (test x) (all-snoc test xs y)
+  where
+    go : (b : Bool) → all test (xs ++ (y ∷ [])) ≡ (all test xs and test y) → (b and all test (xs ++ (y ∷ []))) ≡ ((b and all test xs) and test y)
+    go true e = e
+    go false e = refl
+
+any-snoc : {A : Type 0} (test : A → Bool) (xs : List A) (y : A) → any test (xs ++ (y ∷ [])) ≡ (any test xs or test y)
+unfolding any _or_
+any-snoc test [] y = or-nothing (test y)
+any-snoc test (x ∷ xs) y = go (test x) (any-snoc test xs y)
+  where
+    go : (b : Bool) → any test (xs ++ (y ∷ [])) ≡ (any test xs or test y) → (b or any test (xs ++ (y ∷ []))) ≡ ((b or any test xs) or test y)
+    go true e = refl
+    go false e = e
+
+-- where every row fits none misses
+none-misses : (xs : List Verdict) → all fits xs ≡ true → any misses xs ≡ false
+unfolding all any _or_
+none-misses [] e = refl
+none-misses (Fits b r ∷ xs) e = none-misses xs (and-parts e .1)
+none-misses (Misses ∷ xs) e = absurd (false≢true (and-parts e .0))
+none-misses (Open ∷ xs) e = absurd (false≢true (and-parts e .0))
+
+map-below : {A : Type 0} (f : ℕ → A) (n : ℕ) → map f (below (suc n)) ≡ map f (below n) ++ (f n ∷ [])
+unfolding below
+map-below f n = map-snoc (below n)
+  where
+    map-snoc : (xs : List ℕ) → map f (xs ++ (n ∷ [])) ≡ map f xs ++ (f n ∷ [])
+    map-snoc [] = refl
+    map-snoc (x ∷ xs) = ap (λ l. f x ∷ l) (map-snoc xs)
+
+length-below : (n : ℕ) → length (below n) ≡ n
+unfolding below
+length-below zero = refl
+length-below (suc n) = length-append (below n) (n ∷ []) ∙ add-one (length (below n)) ∙ ap suc (length-below n)
+
+-- the table's verdict, row by row
+verdict-rows : (rows : ℕ → Row) (n : ℕ) → verdictOf rows n ≡ status (all fits (map (verdict rows) (below n))) (any misses (map (verdict rows) (below n)))
+unfolding below all
+verdict-rows rows zero = refl
+verdict-rows rows (suc n) =
+    let xs = map (verdict rows) (below n) in
+    let e = map-below (verdict rows) n in
+    ap (λ s. joinedOf s (verdict rows n)) (verdict-rows rows n)
+    ∙ status-next (all fits xs) (any misses xs) (verdict rows n) (none-misses xs)
+    ∙ ap (λ b. status b (any misses xs or misses (verdict rows n))) (sym (all-snoc fits xs (verdict rows n)))
+    ∙ ap (status (all fits (xs ++ (verdict rows n ∷ [])))) (sym (any-snoc misses xs (verdict rows n)))
+    ∙ ap (λ l. status (all fits l) (any misses l)) (sym e)
+
+pub verdict-whole : (t : Table) (n : ℕ) → n ≡ length t → verdictOf (rowAt t) n ≡ tableVerdict t
+unfolding tableVerdict verdicts
+verdict-whole t n e = ap (verdictOf (rowAt t)) e ∙ verdict-rows (rowAt t) (length t)
+
+-- an array whose first k places are filled
+abbrev pub filled : {A : Type 0} → (ℕ → A) → A → ℕ → ℕ → List A
+filled f z m k = map f (below k) ++ replicate (m - k) z
+
+pub fill-next : {A : Type 0} (f : ℕ → A) (z y : A) (m k : ℕ) → k < m → y ≡ f k → set (filled f z m k) k y ≡ filled f z m (k + 1)
+fill-next f z y m k h e =
+    let a : m - k ≡ suc (m - (k + 1)) = omega arith in
+    let l : length (map f (below k)) ≡ k = length-map (below k) f ∙ length-below k in
+    ap (λ n. set (map f (below k) ++ replicate n z) k y) a
+    ∙ ap (λ n. set (map f (below k) ++ (z ∷ replicate (m - (k + 1)) z)) n y) (sym l)
+    ∙ set-append-seam (map f (below k)) z (replicate (m - (k + 1)) z) y
+    ∙ ap (λ x. map f (below k) ++ (x ∷ replicate (m - (k + 1)) z)) e
+    ∙ sym (append-snoc (map f (below k)) (f k) (replicate (m - (k + 1)) z))
+    ∙ ap (λ xs. xs ++ replicate (m - (k + 1)) z) (sym (map-below f k) ∙ ap (λ n. map f (below n)) (sym (add-one k)))

@@ -1,0 +1,9 @@
+pub mod Split
+pub mod Steps
+pub mod Lines
+pub mod Fits
+pub mod Back
+pub mod Forth
+pub mod Values
+pub mod Reader
+pub mod Writer

@@ -1,0 +1,5 @@
+pub mod Split
+pub mod Read
+pub mod Write
+pub mod Parts
+pub mod Cases

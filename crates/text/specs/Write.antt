@@ -1,0 +1,40 @@
+-- The text of a table, and what writing it into a lent buffer gives.
+use mathlib.Core.List.{List, [], _∷_, _++_}
+use Prim.Native.Nat.{ℕ}
+use lib.Dec.{leb}
+use lib.ListN.{length}
+use Rattle.words.specs.Choice.{if_then_else_}
+use Rattle.words.specs.Buffer.{placed}
+use Rattle.decimal.specs.Decimal.{digits}
+use Rattle.table.specs.Paper.{Row, Table}
+use Rattle.table.specs.Value.{tableOf, wellFormed}
+use Rattle.table.specs.declared.Table.{Table as TableValue}
+use Rattle.refusals.specs.declared.Refusal.the-variants.{BadTable, NoRoom}
+use Rattle.text.specs.declared.Written.{Written}
+use Rattle.text.specs.declared.Written.the-variants.{Bytes, Refused}
+use Rattle.text.specs.Split.{lineFeed, tab}
+
+-- numbers, a tab before each
+unfoldable pub numbersText : List ℕ → List ℕ
+numbersText [] = []
+numbersText (n ∷ ns) = tab ∷ digits n ++ numbersText ns
+
+-- a row's line: name, T, D, the times, and the line feed
+unfoldable pub lineText : Row → List ℕ
+lineText r = r .name ++ numbersText (r .period ∷ r .deadline ∷ r .times) ++ (lineFeed ∷ [])
+
+-- a table's text: one line a row
+unfoldable pub tableText : Table → List ℕ
+tableText [] = []
+tableText (r ∷ rs) = lineText r ++ tableText rs
+
+-- 20, then 22, else the length
+unfoldable pub written : TableValue → List ℕ → Written
+written v d =
+    if wellFormed v
+    then (if leb (length (tableText (tableOf v))) (length d) then Bytes (length (tableText (tableOf v))) else Refused NoRoom)
+    else Refused BadTable
+
+-- the buffer afterwards: unchanged after a refusal
+unfoldable pub writtenInto : TableValue → List ℕ → List ℕ
+writtenInto v d = if wellFormed v then placed (tableText (tableOf v)) d else d

@@ -1,0 +1,88 @@
+// Reads a stream of texts, and writes for each what the library makes of it: the text again, written from the table that was read, or the refusal.
+use libc::STDERR_FILENO;
+use libc::STDOUT_FILENO;
+use refusals::Refusal;
+use streams::Item;
+use table::Table;
+use text::Outcome;
+use text::Written;
+
+// The most bytes of an item: more than a text may have, so that texts that are too long can be tried.
+const ITEM: usize = 8_192;
+
+// The most items. A proved loop has to end, and nothing says that the input does.
+const ITEMS: u64 = 100_000;
+
+// The most digits of a number of 64 bits.
+const DIGITS: usize = 20;
+
+fn write_number(n: u64) {
+    let mut digits = [0u8; DIGITS];
+    let len = decimal::write(n, &mut digits);
+    io::write_all(STDOUT_FILENO, &digits[..len]);
+}
+
+// Writes the refused line: number, line and field.
+fn write_refusal(why: Refusal) {
+    io::write_all(STDOUT_FILENO, b"refused\t");
+    write_number(why.number());
+    io::write_all(STDOUT_FILENO, b"\t");
+    write_number(why.line() as u64);
+    io::write_all(STDOUT_FILENO, b"\t");
+    write_number(why.field() as u64);
+    io::write_all(STDOUT_FILENO, b"\n");
+}
+
+// A table that was read is never refused here: where one were, the line would show it.
+fn write_table(table: Table) {
+    let mut text = [0u8; Table::TEXT];
+    match text::write(table, &mut text) {
+        Written::Bytes(len) => {
+            io::write_all(STDOUT_FILENO, &text[..len]);
+        }
+        Written::Refused(_) => {
+            io::write_all(STDOUT_FILENO, b"unwritten\n");
+        }
+    }
+}
+
+fn answer(text: &[u8]) {
+    let reading = text::read(text);
+    let outcome = reading.outcome;
+    match outcome {
+        Outcome::Accepted => {
+            write_table(reading.table);
+        }
+        Outcome::Refused(why) => {
+            write_refusal(why);
+        }
+    }
+}
+
+// Answers the next item, and says whether another may follow.
+fn answer_next() -> bool {
+    let mut item = [0u8; ITEM];
+    match streams::next(&mut item) {
+        Item::Bytes(len) => {
+            answer(&item[..len]);
+            true
+        }
+        Item::Over => false,
+        Item::Broken => {
+            io::write_all(
+                STDERR_FILENO,
+                b"texts: an item has more than 8192 bytes or is cut off\n",
+            );
+            false
+        }
+    }
+}
+
+fn main() {
+    for _ in 0..ITEMS {
+        if !answer_next() {
+            return;
+        }
+    }
+    io::write_all(STDERR_FILENO, b"texts: ended after 100000 items\n");
+}
