@@ -1,4 +1,4 @@
--- Laws of `arrivals`. Only this file opens `arrivals` and `ceiling`, besides the cases of specs/Cases, which are computed.
+-- Laws of `arrivals`. Only this file opens `arrivals` and `ceiling`.
 use mathlib.Core.Path.{_≡_, refl, sym, ap, _∙_}
 use mathlib.Core.Bool.{Bool, true, false}
 use Prim.Native.Nat.{ℕ, zero, suc, _+_, _-_, _*_, _/_, _%_, _≤_, _<_}

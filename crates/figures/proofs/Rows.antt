@@ -5,16 +5,16 @@ use mathlib.Core.List.{List, [], _∷_}
 use Prim.Native.Nat.{ℕ, _%_, _≤_, _<_}
 use native.Mathlib.Omega.{arith}
 use lib.ListN.{length}
-use borrow.Author.Tests.{eqb-true, leb-true, ltb-true, ltb-false}
+use borrow.Author.Tests.{eqb-true, ltb-true, ltb-false}
 use Rattle.words.specs.Lists.{sum, all}
 use Rattle.words.proofs.Choice.{and-parts}
 use Rattle.table.specs.Paper.{Row, Part, part, behind, parts, work, total, rightNumber, rightCount, rightRow, waits}
+use Rattle.table.proofs.Rules.{number-range, row-period, row-count, row-times, row-order, row-sum}
 use Rattle.figures.specs.Figures.{own}
 
 -- a right number is 1 or more
 pub number-some : (n : ℕ) → rightNumber n ≡ true → 1 ≤ n
-unfolding rightNumber
-number-some n e = leb-true 1 n (and-parts e .0)
+number-some n e = number-range n e .0
 
 behind-sum : (l : List ℕ) → length l % 2 ≡ 0 → total (behind l) ≡ sum l
 unfolding sum
@@ -44,20 +44,16 @@ pub record Sane (r : Row) : Type 0 where
 
 -- a row that keeps the rules of a row has all of these
 pub sane : (r : Row) → rightRow r ≡ true → Sane r
-unfolding rightRow rightCount
+unfolding rightCount
 sane r e =
-    let period = and-parts (and-parts e .1) in
-    let count = and-parts (and-parts (period .1) .1) in
-    let numbers = and-parts (count .1) in
-    let ends = and-parts (numbers .1) in
-    let odd : length (r .times) % 2 ≡ 1 = eqb-true (length (r .times) % 2) 1 (and-parts (count .0) .0) in
+    let odd : length (r .times) % 2 ≡ 1 = eqb-true (length (r .times) % 2) 1 (and-parts (row-count r e) .0) in
     record {
       odd = odd;
-      numbers = numbers .0;
-      own-some = parts-some (r .times) odd (numbers .0);
-      own-fits = omega (arith, parts-sum (r .times) odd, leb-true (sum (r .times)) (r .deadline) (ends .1));
-      deadline-fits = leb-true (r .deadline) (r .period) (ends .0);
-      period-some = number-some (r .period) (period .0);
+      numbers = row-times r e;
+      own-some = parts-some (r .times) odd (row-times r e);
+      own-fits = omega (arith, parts-sum (r .times) odd, row-sum r e);
+      deadline-fits = row-order r e;
+      period-some = number-some (r .period) (row-period r e);
     }
 
 -- a right row that does not wait has one time, its C

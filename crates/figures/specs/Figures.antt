@@ -48,10 +48,11 @@ abbrev pub last : ℕ → List ℕ → ℕ
 last t [] = t
 last t (u ∷ l) = last u l
 
--- the result: where the sequence ends at t with f t = t, it is t; else there is none
+-- what the end of the sequence says: a fixed point is a result, anything else is none
 abbrev pub settled : (ℕ → ℕ) → ℕ → Option ℕ
 settled f t = if eqb (f t) t then some t else none
 
+-- the result of the recurrence from c on, up to d
 abbrev pub result : (ℕ → ℕ) → ℕ → ℕ → Option ℕ
 result f d c = settled f (last c (sequence f d c))
 
@@ -109,22 +110,24 @@ judge (x ∷ y ∷ l) w s = lesser w s
 abbrev pub verdict : (ℕ → Row) → ℕ → Verdict
 verdict rows k = judge (parts (rows k .times)) (whole rows k) (split rows k)
 
--- the rounds of split: a stretch behind one that passed D is not worked out
+-- n, unless there is no result
 abbrev pub unlessNone : Option ℕ → ℕ → ℕ
 unlessNone none n = 0
 unlessNone (some r) n = n
 
+-- the rounds of split: a stretch behind one that passed D is not worked out
 abbrev pub splitRounds : (ℕ → Row) → ℕ → List Part → ℕ
 splitRounds rows k [] = 0
 splitRounds rows k (part s c ∷ l) =
     rounds (right rows k c) (rows k .deadline) c + unlessNone (result (right rows k c) (rows k .deadline) c) (splitRounds rows k l)
 
--- all recurrences of the row added: a row with one C has only whole's
+-- a row with one C has only whole's rounds, the others whole's and split's
 abbrev pub withSplit : List Part → ℕ → ℕ → ℕ
 withSplit [] w s = w
 withSplit (x ∷ []) w s = w
 withSplit (x ∷ y ∷ l) w s = w + s
 
+-- the rounds of row k, all recurrences added
 abbrev pub rowRounds : (ℕ → Row) → ℕ → ℕ
 rowRounds rows k =
     withSplit (parts (rows k .times)) (rounds (right rows k (own (rows k))) (rows k .deadline) (own (rows k)))

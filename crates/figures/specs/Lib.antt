@@ -1,4 +1,3 @@
 pub mod Figures
 pub mod Answers
 pub mod Work
-pub mod Cases

@@ -2,4 +2,3 @@ pub mod Split
 pub mod Read
 pub mod Write
 pub mod Parts
-pub mod Cases

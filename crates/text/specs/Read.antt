@@ -51,6 +51,7 @@ withNumber r f v =
     else if eqb f 3 then record { name = r .name; period = r .period; deadline = v; times = r .times }
     else record { name = r .name; period = r .period; deadline = r .deadline; times = r .times ++ (v ∷ []) }
 
+-- goes on with the number, where there is one
 abbrev pub onNumber : {A : Type 0} → Number → (ℕ → A) → A → A
 onNumber (Is v) f a = f v
 onNumber No f a = a
@@ -71,6 +72,7 @@ checkRow n above r =
     else if named (r .name) above then bad (NameTaken n)
     else got r
 
+-- goes on with the row, or with the refusal
 abbrev pub onLine : {A : Type 0} → Line → (Row → A) → (Refusal → A) → A
 onLine (got r) f g = f r
 onLine (bad x) f g = g x

@@ -8,21 +8,12 @@ use lib.Dec.{leb}
 use borrow.Author.Tests.{leb-true}
 use lib.ListN.{length}
 use Rattle.words.specs.Choice.{if_then_else_}
-use Rattle.words.specs.Buffer.{fitted}
 use Rattle.table.specs.Value.{tableOf, wellFormed}
 use Rattle.table.specs.declared.Table.{Table}
 use Rattle.refusals.specs.declared.Refusal.{Refusal}
 use Rattle.refusals.specs.declared.Refusal.the-variants.{BadTable, NoRoom}
 use Rattle.text.specs.Write.{tableText, written}
 use Rattle.text.specs.declared.Written.the-variants.{Bytes, Refused}
-
-pub fitted-le : (bs d : List ℕ) (n : ℕ) → n ≡ fitted bs d → n ≤ length d
-unfolding fitted
-fitted-le bs d n e = go (leb (length bs) (length d)) refl e
-  where
-    go : (t : Bool) → leb (length bs) (length d) ≡ t → n ≡ (if t then length bs else 0) → n ≤ length d
-    go true h e = omega (arith, e, leb-true (length bs) (length d) h)
-    go false h e = omega (arith, e)
 
 refused-none : (why : Refusal) (n : ℕ) → Refused why ≡ Bytes n → ⊥
 refused-none why n e = let z : _≡_ {A = ℕ} 0 1 = cc in omega arith

@@ -1,7 +1,6 @@
 // Reads a stream of texts, and writes for each what the library makes of it: the text again, written from the table that was read, or the refusal.
 use libc::STDERR_FILENO;
 use libc::STDOUT_FILENO;
-use refusals::Refusal;
 use streams::Item;
 use table::Table;
 use text::Outcome;
@@ -12,26 +11,6 @@ const ITEM: usize = 8_192;
 
 // The most items. A proved loop has to end, and nothing says that the input does.
 const ITEMS: u64 = 100_000;
-
-// The most digits of a number of 64 bits.
-const DIGITS: usize = 20;
-
-fn write_number(n: u64) {
-    let mut digits = [0u8; DIGITS];
-    let len = decimal::write(n, &mut digits);
-    io::write_all(STDOUT_FILENO, &digits[..len]);
-}
-
-// Writes the refused line: number, line and field.
-fn write_refusal(why: Refusal) {
-    io::write_all(STDOUT_FILENO, b"refused\t");
-    write_number(why.number());
-    io::write_all(STDOUT_FILENO, b"\t");
-    write_number(why.line() as u64);
-    io::write_all(STDOUT_FILENO, b"\t");
-    write_number(why.field() as u64);
-    io::write_all(STDOUT_FILENO, b"\n");
-}
 
 // A table that was read is never refused here: where one were, the line would show it.
 fn write_table(table: Table) {
@@ -54,7 +33,7 @@ fn answer(text: &[u8]) {
             write_table(reading.table);
         }
         Outcome::Refused(why) => {
-            write_refusal(why);
+            lines::put_refused(why);
         }
     }
 }
