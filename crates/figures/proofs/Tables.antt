@@ -121,7 +121,7 @@ none-misses (Fits b r ∷ xs) e = none-misses xs (and-parts e .1)
 none-misses (Misses ∷ xs) e = absurd (false≢true (and-parts e .0))
 none-misses (Open ∷ xs) e = absurd (false≢true (and-parts e .0))
 
-map-below : {A : Type 0} (f : ℕ → A) (n : ℕ) → map f (below (suc n)) ≡ map f (below n) ++ (f n ∷ [])
+pub map-below : {A : Type 0} (f : ℕ → A) (n : ℕ) → map f (below (suc n)) ≡ map f (below n) ++ (f n ∷ [])
 unfolding below
 map-below f n = map-snoc (below n)
   where
@@ -129,7 +129,7 @@ map-below f n = map-snoc (below n)
     map-snoc [] = refl
     map-snoc (x ∷ xs) = ap (λ l. f x ∷ l) (map-snoc xs)
 
-length-below : (n : ℕ) → length (below n) ≡ n
+pub length-below : (n : ℕ) → length (below n) ≡ n
 unfolding below
 length-below zero = refl
 length-below (suc n) = length-append (below n) (n ∷ []) ∙ add-one (length (below n)) ∙ ap suc (length-below n)

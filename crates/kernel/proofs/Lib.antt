@@ -1,0 +1,6 @@
+pub mod Laws
+pub mod Mirror
+pub mod Plan
+pub mod Link
+pub mod Completions
+pub mod Safe

@@ -1,0 +1,6 @@
+pub mod Rules
+pub mod Run
+pub mod Tick
+pub mod Noted
+pub mod Safe
+pub mod Queue

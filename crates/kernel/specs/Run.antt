@@ -1,0 +1,56 @@
+-- The full run: document 01, the end of 'The kernel's rules'. Each answer is read off the kernel's rules themselves.
+use mathlib.Core.Bool.{Bool, true, false}
+use mathlib.Core.List.{List, [], _∷_, _++_, map}
+use mathlib.Core.Option.{Option, none, some}
+use Prim.Native.Nat.{ℕ, zero, suc, _-_}
+use lib.Dec.{ltb}
+use lib.ListN.{length, replicate}
+use Rattle.words.specs.Choice.{if_then_else_, _and_}
+use Rattle.words.specs.Lists.{below}
+use Rattle.refusals.specs.declared.Refusal.{Refusal}
+use Rattle.refusals.specs.declared.Refusal.the-variants.{BadTable, ManyTicks}
+use Rattle.table.specs.Limits.{mostRows, mostTicks}
+use Rattle.table.specs.Paper.{Row, Table, rowAt}
+use Rattle.table.specs.Value.{tableOf, wellFormed}
+use Rattle.table.specs.declared.Table.{Table as TableValue}
+use Rattle.kernel.specs.declared.Outcome.the-variants.{Ran, Refused}
+use Rattle.kernel.specs.declared.First.{First}
+use Rattle.kernel.specs.declared.First.the-variants.{At, Not}
+use Rattle.kernel.specs.declared.Slot.{Slot}
+use Rattle.kernel.specs.declared.FullRun.{FullRun}
+use Rattle.kernel.specs.Rules.{Job, job, after, full}
+
+-- of the jobs that are not complete none was released at 0: the first job is complete
+abbrev pub firstDone : List Job → Bool
+firstDone [] = true
+firstDone (job r l ∷ q) = ltb 0 r and firstDone q
+
+-- the first of two where it is there, else the second
+abbrev pub orElse : Option ℕ → Option ℕ → Option ℕ
+orElse (some c) o = some c
+orElse none o = o
+
+-- the completion instant of the first job of row k in n ticks of the full run: the first instant after a tick at which it is complete
+abbrev pub completion : (ℕ → Row) → ℕ → ℕ → Option ℕ
+completion rows k zero = none
+completion rows k (suc n) = orElse (completion rows k n) (if firstDone (after (full rows) (suc n) k) then some (suc n) else none)
+
+-- as a value
+abbrev pub slotOf : Option ℕ → Slot
+slotOf (some c) = record { first = At (record { 0 = c }) }
+slotOf none = record { first = Not }
+
+-- the answers of all rows, and none behind the last
+unfoldable pub completions : Table → ℕ → List Slot
+completions t n = map (λ k. slotOf (completion (rowAt t) k n)) (below (length t)) ++ replicate (mostRows - length t) (slotOf none)
+
+-- a refusal holds no instant
+abbrev pub refusedRun : Refusal → FullRun
+refusedRun why = record { outcome = Refused why; rows = replicate mostRows (slotOf none) }
+
+-- 20, then 23, else the answers
+unfoldable pub fullRun : TableValue → ℕ → FullRun
+fullRun v n =
+    if wellFormed v
+    then (if ltb mostTicks n then refusedRun ManyTicks else record { outcome = Ran; rows = completions (tableOf v) n })
+    else refusedRun BadTable

@@ -1,0 +1,10 @@
+pub mod Supply
+pub mod Finish
+pub mod Window
+pub mod Queue
+pub mod Backlog
+pub mod Proper
+pub mod Sound
+pub mod Fits
+pub mod Exact
+pub mod Demands
