@@ -1,7 +1,7 @@
 -- What a tick needs of the machine, so that no sum of it leaves 64 bits and each place is one of the plan.
 use mathlib.Core.Path.{_≡_}
-use Prim.Native.Nat.{ℕ, _+_, _≤_, _<_}
 use mathlib.Core.List.{List, []}
+use Prim.Native.Nat.{ℕ, _+_, _≤_, _<_}
 use lib.ListN.{length, getD}
 use Rattle.ticks.specs.Ticks.{most}
 use Rattle.ticks.specs.declared.Instant.{Instant}

@@ -37,25 +37,29 @@ periodOf lane = getD lane (mostTimes + 2) 0
 abbrev pub cellOf : List ℕ → Cell
 cellOf lane = record { release = instant 0; ready = instant 0; place = 0; left = long (timeAt lane 0) }
 
--- a stretch has ended at the instant `end`: its suspension starts, and the job's next stretch is ready when that ends;
--- or there is none, the job is complete, and the next one is due a period after its release: at once where it is late
-unfoldable pub endedOf : Instant → List ℕ → Cell → Cell
-endedOf end lane c =
-    if isZero (timeAt lane (c .place + 2))
-    then
+-- the job is complete: the next one is due a period after its release, and ready at once where it is late
+abbrev pub nextJob : List ℕ → Cell → Cell
+nextJob lane c =
     record {
       release = instant (c .release .0 + periodOf lane);
       ready = instant (c .release .0 + periodOf lane);
       place = 0;
       left = long (timeAt lane 0);
     }
-    else
+
+-- the suspension behind a stretch starts at the instant `end`: the job's next stretch is ready when it ends
+abbrev pub nextStretch : Instant → List ℕ → Cell → Cell
+nextStretch end lane c =
     record {
       release = c .release;
       ready = instant (end .0 + timeAt lane (c .place + 1));
       place = c .place + 2;
       left = long (timeAt lane (c .place + 2));
     }
+
+-- a stretch has ended at the instant `end`: the job's last, or one with another behind it
+unfoldable pub endedOf : Instant → List ℕ → Cell → Cell
+endedOf end lane c = if isZero (timeAt lane (c .place + 2)) then nextJob lane c else nextStretch end lane c
 
 -- a row runs for the tick that begins at `from`: its stretch has a tick less to go, or ends with the tick
 unfoldable pub servedOf : Instant → List ℕ → Cell → Cell

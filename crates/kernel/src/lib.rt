@@ -1,13 +1,13 @@
 // The kernel's machine, and the full run.
 ghost use mathlib.Core.Path.{_≡_};
-ghost use Prim.Native.Nat.{_+_, _≤_, _<_};
-ghost use Rattle.kernel.specs.Tick.{instant, laneOf, planOf, endedOf, servedOf, tickOf, startOf};
-ghost use Rattle.kernel.specs.Noted.{notedOf, firstsAfter, completionOf, slotsOf};
+ghost use Prim.Native.Nat.{_+_, _≤_};
 ghost use lib.ListN.{length};
 ghost use Rattle.ticks.specs.Ticks.{most};
 ghost use Rattle.table.specs.Limits.{mostRows};
-ghost use Rattle.kernel.specs.Safe.{Fits, Safe, SafeRun};
 ghost use Rattle.kernel.specs.Run.{slotOf, fullRun};
+ghost use Rattle.kernel.specs.Tick.{instant, laneOf, planOf, endedOf, servedOf, tickOf, startOf};
+ghost use Rattle.kernel.specs.Noted.{notedOf, firstsAfter, completionOf, slotsOf};
+ghost use Rattle.kernel.specs.Safe.{Fits, Safe, SafeRun};
 use refusals::Refusal;
 use table::Row;
 use table::Table;
