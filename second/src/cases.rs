@@ -22,7 +22,8 @@ pub struct Expected {
     pub rounds: u64,
 }
 
-/// A worked case about figures; `proved` are the ones marked P.
+/// A worked case about figures; `proved` are the ones marked P. The others
+/// work out what the paper says beside them.
 pub struct WorkedCase {
     pub why: &'static str,
     pub proved: bool,
@@ -117,6 +118,16 @@ pub const WORKED_CASES: &[WorkedCase] = &[
         table: TableVerdict::Open,
     },
     WorkedCase {
+        why: "the same with D = 18: whole would be 14, split 18",
+        proved: false,
+        rows: &[(4, 4, &[1]), (20, 20, &[2]), (20, 20, &[2]), (18, 18, &[2, 2, 2])],
+        expected: &[
+            // Whole: 12, 13, 14, 14. Each stretch: 7, 8, 8; with S, 8 + 8 + 2.
+            Expected { row: 4, verdict: fits(14, Bound::Whole), whole: Some(14), split: Some(18), rounds: 10 },
+        ],
+        table: TableVerdict::Fits,
+    },
+    WorkedCase {
         why: "a partial sum above D doesn't stop split",
         proved: false,
         rows: &[(10, 10, &[5]), (20, 10, &[1, 1, 1, 1, 1])],
@@ -141,7 +152,10 @@ pub struct TextCase {
 
 type Fixed = (&'static str, &'static [u8], Answer);
 
-/// The texts the paper itself speaks of.
+/// The texts the paper itself speaks of: "text of 0 bytes gives 1; a single
+/// line feed gives 6", "T 1000000 is read; 1000001, 0 and 07 give 8", "C + S
+/// = D is read; one more gives 10", "a carriage return before the line feed
+/// gives 8 at the last field".
 const PAPER_TEXTS: &[Fixed] = &[
     ("no byte at all", b"", (1, 0, 0)),
     ("a single line feed", b"\n", (6, 1, 0)),
@@ -651,13 +665,14 @@ const FURTHER_TABLES: &[&[PaperRow]] = &[
     &[(1, 1, &[1]), (1_000_000, 1_000_000, &[1])],
 ];
 
-/// The tables for the figures: the paper's cases first, with Table A under
-/// its own names as well, then further ones.
-pub fn figure_tables() -> Vec<Vec<u8>> {
-    let mut texts = vec![TABLE_A_TEXT.to_vec()];
-    let rows = WORKED_CASES.iter().map(|case| case.rows).chain(FURTHER_TABLES.iter().copied());
-    texts.extend(rows.map(text_of_rows));
-    texts
+/// Every case that the paper works out, those about figures before those
+/// about texts (Table A under its own names is among these), then the further
+/// tables.
+pub fn worked_cases() -> Vec<Vec<u8>> {
+    let figures = WORKED_CASES.iter().map(|case| text_of_rows(case.rows));
+    let texts = PAPER_TEXTS.iter().map(|&(_, text, _)| text.to_vec());
+    let further = FURTHER_TABLES.iter().map(|rows| text_of_rows(rows));
+    figures.chain(texts).chain(further).collect()
 }
 
 fn text_of_rows(rows: &[PaperRow]) -> Vec<u8> {

@@ -4,9 +4,11 @@
 //! each rule over any cleverness.
 
 pub mod cases;
+pub mod coverage;
 pub mod draw;
 pub mod figures;
 pub mod report;
 pub mod run;
+pub mod run_cases;
 pub mod stream;
 pub mod table;

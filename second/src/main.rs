@@ -24,14 +24,21 @@
 //!   second run-stream SEED COUNT     writes a run stream of COUNT items
 //!   second run-answers               run stream in; for each item the full
 //!                                    run's lines or the refused line
-//!   second figure-tables             writes a stream of tables for figures
+//!   second worked-cases              writes the paper's worked cases and
+//!                                    further tables as a stream
+//!   second run-tables                writes the full runs chosen by hand as
+//!                                    a run stream
+//!   second coverage                  stream in; how often it meets each
+//!                                    refusal, verdict, bound, number of rows
+//!   second run-coverage              the same of a run stream
 //!
 //! A refused text is an answer like any other: the program ends with 0. It
 //! ends with 2 for a wrong command, and with 1 where the input is no stream,
-//! a text is too bad to be timed, or reading or writing fails.
+//! a text is too bad to be timed, a kind is never met, or reading or writing
+//! fails.
 
 use second::table::TEXT_MOST;
-use second::{cases, draw, report, run, stream, table};
+use second::{cases, coverage, draw, report, run, run_cases, stream, table};
 use std::io::{self, Read, Write};
 use std::process::ExitCode;
 use std::time::Instant;
@@ -50,7 +57,10 @@ usage: second COMMAND
   report-answers            stream in; reports or refused lines out
   run-stream SEED COUNT     writes a run stream of COUNT items
   run-answers               run stream in; full runs' lines or refused lines out
-  figure-tables             writes a stream of tables for the figures
+  worked-cases              writes the paper's worked cases and further tables
+  run-tables                writes a run stream of full runs chosen by hand
+  coverage                  stream in; how often each kind of answer is met out
+  run-coverage              run stream in; the same out
 A stream is, for each item, its length as two bytes (the higher first) and
 then that many bytes. An item of a run stream is the number of ticks as four
 bytes (the higher first) and then the text.
@@ -62,7 +72,7 @@ const DAMAGED_COUNT: usize = 600;
 
 enum Failure {
     Usage,
-    Input(&'static str),
+    Input(String),
     Io(io::Error),
 }
 
@@ -74,7 +84,7 @@ impl From<io::Error> for Failure {
 
 impl From<stream::CutOff> for Failure {
     fn from(_: stream::CutOff) -> Failure {
-        Failure::Input("the input ends inside an item")
+        Failure::Input("the input ends inside an item".to_string())
     }
 }
 
@@ -113,7 +123,10 @@ fn answer(words: &[&str]) -> Result<Vec<u8>, Failure> {
         ["report-answers"] => for_each_text(report::report_answer),
         ["run-stream", seed, count] => Ok(draw::run_stream(number(seed)?, number(count)? as usize)),
         ["run-answers"] => run_answers(),
-        ["figure-tables"] => Ok(stream::from_items(&cases::figure_tables())),
+        ["worked-cases"] => Ok(stream::from_items(&cases::worked_cases())),
+        ["run-tables"] => Ok(run_cases::run_tables()),
+        ["coverage"] => covered(coverage::of_texts),
+        ["run-coverage"] => covered(coverage::of_runs),
         _ => Err(Failure::Usage),
     }
 }
@@ -144,7 +157,7 @@ fn run_command(full_run: report::FullRun, ticks: &str) -> Result<Vec<u8>, Failur
 }
 
 fn time_run(ticks: u64, repeats: u64) -> Result<Vec<u8>, Failure> {
-    let refused = |_| Failure::Input("the text or the number of ticks is refused");
+    let refused = |_| Failure::Input("the text or the number of ticks is refused".to_string());
     let table = table::read(&read_text()?).map_err(refused)?;
     let mut fewest = None;
     for _ in 0..repeats {
@@ -181,4 +194,16 @@ fn run_answers() -> Result<Vec<u8>, Failure> {
         out.extend(report::run_answer(text, u64::from(ticks)));
     }
     Ok(out)
+}
+
+type Cover = fn(&[u8]) -> Result<coverage::Coverage, stream::CutOff>;
+
+/// A kind that is never met makes the command fail, so that a script need
+/// not read the counts.
+fn covered(cover: Cover) -> Result<Vec<u8>, Failure> {
+    let coverage = cover(&read_stream()?)?;
+    match coverage.missing().as_slice() {
+        [] => Ok(coverage.lines().into_bytes()),
+        missing => Err(Failure::Input(format!("never met: {}", missing.join(", ")))),
+    }
 }

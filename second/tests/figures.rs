@@ -191,13 +191,32 @@ fn rounds_of_a_row_with_one_c_are_at_most_d_less_c_and_one() {
 }
 
 #[test]
-fn figure_tables_are_right_and_of_every_verdict() {
-    let texts = cases::figure_tables();
-    assert!(texts.len() >= 40, "{}", texts.len());
+fn every_case_of_the_paper_stands_in_the_stream_of_worked_cases() {
+    let texts = cases::worked_cases();
+    for case in cases::WORKED_CASES {
+        assert!(texts.contains(&table::write(&case.table_value())), "{}", case.why);
+    }
+    let answers: Vec<Vec<u8>> = texts.iter().map(|text| report::report_answer(text)).collect();
+    let position = |text: &[u8]| texts.iter().position(|other| other == text).expect("it is there");
+    assert_eq!(answers[position(cases::TABLE_A_TEXT)], cases::TABLE_A_REPORT);
+    assert_eq!(answers[position(b"")], b"refused\t1\t0\t0\n");
+    assert_eq!(answers[position(b"\n")], b"refused\t6\t1\t0\n");
+    // T 1000000 and C + S = D are read; 1000001, 0 and 07 give 8, one more
+    // than D gives 10, and a carriage return 8 at the last field.
+    let refused = |line: &[u8]| answers.iter().filter(|answer| *answer == line).count();
+    assert_eq!(refused(b"refused\t8\t1\t2\n"), 3);
+    assert_eq!(refused(b"refused\t8\t1\t4\n"), 1);
+    assert_eq!(refused(b"refused\t10\t1\t0\n"), 1);
+    assert_eq!(answers.iter().filter(|answer| answer.starts_with(b"refused")).count(), 7);
+}
+
+#[test]
+fn worked_cases_are_of_every_verdict_and_bound() {
+    let texts = cases::worked_cases();
+    assert!(texts.len() >= 59, "{}", texts.len());
     let mut verdicts = Vec::new();
     let mut bounds = Vec::new();
-    for text in &texts {
-        let table = table::read(text).expect("a right text");
+    for table in texts.iter().filter_map(|text| table::read(text).ok()) {
         let all = figures::table_figures(&table);
         verdicts.push(figures::table_verdict(&all));
         bounds.extend(all.iter().map(|figures| (figures.whole.is_some(), figures.split.is_some())));

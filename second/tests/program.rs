@@ -1,7 +1,6 @@
 //! The command line, by running the program.
 
-use second::cases;
-use second::stream;
+use second::{cases, run_cases, stream};
 use std::io::Write;
 use std::process::{Command, Output, Stdio};
 
@@ -79,8 +78,35 @@ fn streams_of_reports_and_runs() {
     assert_ne!(drawn, answered(&["draw", "7", "50", "very-heavy"], b""));
     let runs = answered(&["run-stream", "7", "50"], b"");
     assert_eq!(stream::items(&runs).map(|items| items.len()), Ok(50));
-    let tables = answered(&["figure-tables"], b"");
-    assert_eq!(stream::items(&tables).map(|items| items.len()), Ok(cases::figure_tables().len()));
+    let worked = answered(&["worked-cases"], b"");
+    assert_eq!(stream::items(&worked).map(|items| items.len()), Ok(cases::worked_cases().len()));
+}
+
+#[test]
+fn hand_chosen_runs_as_a_stream() {
+    let bytes = answered(&["run-tables"], b"");
+    let expected: String = run_cases::run_cases().into_iter().map(|case| case.expected).collect();
+    assert_eq!(answered(&["run-answers"], &bytes), expected.as_bytes());
+}
+
+#[test]
+fn coverage_of_a_stream() {
+    let drawn = answered(&["draw", "7", "2000"], b"");
+    let lines = String::from_utf8(answered(&["coverage"], &drawn)).expect("words and digits");
+    for line in lines.lines() {
+        let (_, count) = line.split_once('\t').expect("a kind and its count");
+        assert!(count.parse::<u64>().is_ok_and(|count| count > 0), "{line}");
+    }
+    let runs = answered(&["run-stream", "7", "600"], b"");
+    let lines = String::from_utf8(answered(&["run-coverage"], &runs)).expect("words and digits");
+    assert!(lines.contains("\nrefusal 23\t"), "{lines}");
+    // A single table meets next to nothing, and that is said.
+    let output = second(&["coverage"], &stream::from_items(&[cases::TABLE_A_TEXT]));
+    assert_eq!(output.status.code(), Some(1));
+    assert!(output.stdout.is_empty());
+    let said = String::from_utf8(output.stderr).expect("words");
+    assert!(said.starts_with("second: never met: refusal  1, refusal  2,"), "{said}");
+    assert!(!said.contains("row fits by split"), "{said}");
 }
 
 #[test]
@@ -92,7 +118,7 @@ fn wrong_commands_and_broken_streams() {
         assert_eq!(output.status.code(), Some(2), "{words:?}");
         assert!(output.stdout.is_empty() && !output.stderr.is_empty(), "{words:?}");
     }
-    for command in ["report-answers", "text-answers", "run-answers"] {
+    for command in ["report-answers", "text-answers", "run-answers", "coverage", "run-coverage"] {
         assert_eq!(second(&[command], &[0, 5, b'a']).status.code(), Some(1), "{command}");
     }
     assert!(answered(&["help"], b"").starts_with(b"usage: second"));

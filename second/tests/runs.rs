@@ -4,6 +4,7 @@ use second::draw::{self, Load, Random};
 use second::figures::{self, RowFigures, RowVerdict};
 use second::report;
 use second::run::{self, Machine};
+use second::run_cases;
 use second::table::{self, Refusal, Row, Table};
 
 fn table_of(text: &[u8]) -> Table {
@@ -21,6 +22,16 @@ fn table_a_goes_as_worked_out_by_hand() {
     assert_eq!(run::run(&table, 6), Ok(vec![Some(2), None, None]));
     assert_eq!(run::run(&table, 1), Ok(vec![None, None, None]));
     assert_eq!(run::run(&table, 0), Ok(vec![None, None, None]));
+}
+
+#[test]
+fn every_hand_chosen_run_goes_as_worked_out() {
+    for case in run_cases::run_cases() {
+        for full_run in [run::run, run::run_fast] {
+            let answer = report::run_answer_by(full_run, &case.text, u64::from(case.ticks));
+            assert_eq!(answer.escape_ascii().to_string(), case.expected.escape_default().to_string(), "{}", case.why);
+        }
+    }
 }
 
 #[test]

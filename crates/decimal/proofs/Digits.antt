@@ -84,6 +84,20 @@ length-some n = go (decLt n 10)
     go (yes h) = omega (arith, length-small n h)
     go (no h) = omega (arith, length-big n (omega arith))
 
+-- a greater number has no fewer digits
+pub length-grows : (m n : ℕ) → n ≤ m → length (digits n) ≤ length (digits m)
+length-grows = by-last-digit (λ m. (n : ℕ) → n ≤ m → length (digits n) ≤ length (digits m)) small big
+  where
+    small : (m : ℕ) → m < 10 → (n : ℕ) → n ≤ m → length (digits n) ≤ length (digits m)
+    small m h n k = omega (arith, length-small m h, length-small n (omega arith))
+
+    big : (m : ℕ) → 10 ≤ m → ((n : ℕ) → n ≤ m / 10 → length (digits n) ≤ length (digits (m / 10))) → (n : ℕ) → n ≤ m → length (digits n) ≤ length (digits m)
+    big m h ih n k = go (decLt n 10)
+      where
+        go : Dec (n < 10) → length (digits n) ≤ length (digits m)
+        go (yes a) = omega (arith, length-small n a, length-some m)
+        go (no a) = omega (arith, length-big n (omega arith), length-big m h, ih (n / 10) (omega arith))
+
 -- a byte put in front of those from at on
 pub put-before : (bs : List ℕ) (at b : ℕ) → 1 ≤ at → at ≤ length bs → drop (at - 1) (set bs (at - 1) b) ≡ b ∷ drop at bs
 put-before bs at b h k =

@@ -7,3 +7,4 @@ pub mod Counting
 pub mod Steps
 pub mod Split
 pub mod Tables
+pub mod Bounds

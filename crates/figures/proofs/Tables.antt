@@ -2,15 +2,14 @@
 use mathlib.Core.Path.{_≡_, refl, sym, ap, _∙_}
 use mathlib.Core.Bool.{Bool, true, false, false≢true}
 use mathlib.Core.List.{List, [], _∷_, _++_, map}
-use Prim.Native.Nat.{ℕ, zero, suc, _+_, _-_, _≤_, _<_}
+use Prim.Native.Nat.{ℕ, zero, suc, _-_, _≤_, _<_}
 use native.Mathlib.Omega.{arith}
-use native.Mathlib.Numerals.{add-one}
-use lib.ListN.{length, getD, set, replicate, length-append, length-map}
-use lib.Seq.{set-append-seam, append-snoc}
+use lib.ListN.{length, getD, replicate}
 use Rattle.words.specs.Choice.{if_then_else_, _and_, _or_}
 use Rattle.words.specs.Lists.{all, any, upTo, below}
 use Rattle.words.proofs.Choice.{and-parts, or-nothing}
 use Rattle.words.proofs.Lists.{all-each}
+use Rattle.words.proofs.Filled.{map-below}
 use Rattle.table.specs.Limits.{mostRows}
 use Rattle.table.specs.Paper.{Row, Table, rowAt, rightRow}
 use Rattle.table.specs.Value.{noValue, rowOf, rowValue, emptyRow, tableOf, tableValue, wellFormed}
@@ -121,19 +120,6 @@ none-misses (Fits b r ∷ xs) e = none-misses xs (and-parts e .1)
 none-misses (Misses ∷ xs) e = absurd (false≢true (and-parts e .0))
 none-misses (Open ∷ xs) e = absurd (false≢true (and-parts e .0))
 
-pub map-below : {A : Type 0} (f : ℕ → A) (n : ℕ) → map f (below (suc n)) ≡ map f (below n) ++ (f n ∷ [])
-unfolding below
-map-below f n = map-snoc (below n)
-  where
-    map-snoc : (xs : List ℕ) → map f (xs ++ (n ∷ [])) ≡ map f xs ++ (f n ∷ [])
-    map-snoc [] = refl
-    map-snoc (x ∷ xs) = ap (λ l. f x ∷ l) (map-snoc xs)
-
-pub length-below : (n : ℕ) → length (below n) ≡ n
-unfolding below
-length-below zero = refl
-length-below (suc n) = length-append (below n) (n ∷ []) ∙ add-one (length (below n)) ∙ ap suc (length-below n)
-
 -- the table's verdict, row by row
 verdict-rows : (rows : ℕ → Row) (n : ℕ) → verdictOf rows n ≡ status (all fits (map (verdict rows) (below n))) (any misses (map (verdict rows) (below n)))
 unfolding below all
@@ -150,18 +136,3 @@ verdict-rows rows (suc n) =
 pub verdict-whole : (t : Table) (n : ℕ) → n ≡ length t → verdictOf (rowAt t) n ≡ tableVerdict t
 unfolding tableVerdict verdicts
 verdict-whole t n e = ap (verdictOf (rowAt t)) e ∙ verdict-rows (rowAt t) (length t)
-
--- an array whose first k places are filled
-abbrev pub filled : {A : Type 0} → (ℕ → A) → A → ℕ → ℕ → List A
-filled f z m k = map f (below k) ++ replicate (m - k) z
-
-pub fill-next : {A : Type 0} (f : ℕ → A) (z y : A) (m k : ℕ) → k < m → y ≡ f k → set (filled f z m k) k y ≡ filled f z m (k + 1)
-fill-next f z y m k h e =
-    let a : m - k ≡ suc (m - (k + 1)) = omega arith in
-    let l : length (map f (below k)) ≡ k = length-map (below k) f ∙ length-below k in
-    ap (λ n. set (map f (below k) ++ replicate n z) k y) a
-    ∙ ap (λ n. set (map f (below k) ++ (z ∷ replicate (m - (k + 1)) z)) n y) (sym l)
-    ∙ set-append-seam (map f (below k)) z (replicate (m - (k + 1)) z) y
-    ∙ ap (λ x. map f (below k) ++ (x ∷ replicate (m - (k + 1)) z)) e
-    ∙ sym (append-snoc (map f (below k)) (f k) (replicate (m - (k + 1)) z))
-    ∙ ap (λ xs. xs ++ replicate (m - (k + 1)) z) (sym (map-below f k) ∙ ap (λ n. map f (below n)) (sym (add-one k)))

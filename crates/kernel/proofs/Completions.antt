@@ -13,20 +13,22 @@ use lib.ListN.{length, getD, set, replicate, length-set, getD-replicate, List·g
 use lib.Seq.{getD-set-same, getD-set-other}
 use Rattle.words.specs.Choice.{if_then_else_, _and_}
 use Rattle.words.specs.Lists.{below}
-use Rattle.words.proofs.Choice.{and-both}
+use Rattle.words.proofs.Choice.{and-both, if-true, if-false}
 use Rattle.ticks.specs.declared.Instant.{Instant}
-use Rattle.table.specs.Limits.{mostRows}
+use Rattle.refusals.specs.declared.Refusal.the-variants.{ManyTicks}
+use Rattle.table.specs.Limits.{mostRows, mostTicks}
 use Rattle.table.specs.Paper.{Table, rowAt, Row}
 use Rattle.table.specs.Value.{tableOf, wellFormed}
 use Rattle.table.specs.declared.Table.{Table as TableValue}
+use Rattle.kernel.specs.declared.Outcome.the-variants.{Ran}
 use Rattle.kernel.specs.declared.Cell.{Cell}
 use Rattle.kernel.specs.declared.Machine.{Machine}
 use Rattle.kernel.specs.Rules.{after, full}
-use Rattle.kernel.specs.Run.{firstDone, orElse, completion, slotOf, completions}
+use Rattle.kernel.specs.Run.{firstDone, orElse, completion, slotOf, completions, refusedRun, fullRun}
 use Rattle.kernel.specs.Tick.{instant, planOf, cellOf, cellAt, runs, tickOf, startOf, ticked, runOf}
 use Rattle.kernel.specs.Noted.{slotsOf, notedOf, completionOf, noteOf, firstsAfter, firstAt}
 use Rattle.kernel.specs.Queue.{queueOf, fullJobs, jobsOf, releasedOf}
-use Rattle.kernel.proofs.Laws.{counted-same}
+use Rattle.words.proofs.Filled.{below-same}
 use Rattle.kernel.proofs.Plan.{len-is, len-most, planned}
 use Rattle.kernel.proofs.Link.{other-cell, run-now, cells-enough, mirrors}
 
@@ -72,6 +74,16 @@ or-else-none none = refl
 or-else-some : (o : Option ℕ) (c : ℕ) → orElse o (some c) ≡ none → ⊥
 or-else-some (some d) c e = absurd (Option·none-ne-some d (sym e))
 or-else-some none c e = absurd (Option·none-ne-some c (sym e))
+
+-- a completion instant is the end of one of the n ticks
+or-else-most : (o : Option ℕ) (b : Bool) (n c : ℕ) → ((d : ℕ) → o ≡ some d → d ≤ n) → orElse o (if b then some (suc n) else none) ≡ some c → c ≤ suc n
+or-else-most (some d) b n c h e = omega (arith, h c e)
+or-else-most none true n c h e = let z : suc n ≡ c = cc in omega arith
+or-else-most none false n c h e = absurd (Option·none-ne-some c e)
+
+pub completion-most : (rows : ℕ → Row) (k n c : ℕ) → completion rows k n ≡ some c → c ≤ n
+completion-most rows k zero c e = absurd (Option·none-ne-some c e)
+completion-most rows k (suc n) c e = or-else-most (completion rows k n) (firstDone (after (full rows) (suc n) k)) n c (completion-most rows k n) e
 
 completion-zero : (f : Instant) → f .0 ≡ 0 → completionOf f ≡ none
 unfolding completionOf
@@ -169,5 +181,15 @@ module _ (v : TableValue) (ok : wellFormed v ≡ true) where
   unfolding slotsOf completions
   answers n =
       ap (λ l. l ++ replicate (mostRows - v .len) (slotOf none))
-      (counted-same (λ i. slotOf (completionOf (firstAt v n i))) (λ i. slotOf (completion (rowAt t) i n)) (v .len) (λ i h. ap slotOf (completes n i h)))
+      (below-same (λ i. slotOf (completionOf (firstAt v n i))) (λ i. slotOf (completion (rowAt t) i n)) (v .len) (λ i h. ap slotOf (completes n i h)))
       ∙ ap (λ l. map (λ i. slotOf (completion (rowAt t) i n)) (below l) ++ replicate (mostRows - l) (slotOf none)) (len-is v ok)
+
+-- up to the limit the run takes place
+pub run-there : (v : TableValue) (n : ℕ) → wellFormed v ≡ true → n ≤ mostTicks → fullRun v n ≡ record { outcome = Ran; rows = completions (tableOf v) n }
+unfolding fullRun
+run-there v n ok h = if-true _ _ ok ∙ if-false _ _ (le-ltb mostTicks n h)
+
+-- and beyond it 23 is answered
+pub run-many : (v : TableValue) (n : ℕ) → wellFormed v ≡ true → mostTicks < n → fullRun v n ≡ refusedRun ManyTicks
+unfolding fullRun
+run-many v n ok h = if-true _ _ ok ∙ if-true _ _ (lt-ltb mostTicks n h)

@@ -1,17 +1,16 @@
--- How the code goes on: a sum that stays within 64 bits, arrays that are filled from the front, the search for the highest ready row.
-use mathlib.Core.Path.{_≡_, refl, sym, _∙_, ap}
+-- How the code goes on: a sum that stays within 64 bits, the search for the highest ready row, what is noted, one tick after the other.
+use mathlib.Core.Path.{_≡_, sym, _∙_, ap}
 use mathlib.Core.Bool.{true, false}
-use mathlib.Core.List.{List, [], _∷_, _++_, map, append-nil}
-use Prim.Native.Nat.{ℕ, zero, suc, _+_, _-_, _≤_, _<_}
+use mathlib.Core.List.{List, [], _∷_}
+use Prim.Native.Nat.{ℕ, suc, _+_, _≤_, _<_}
 use native.Mathlib.Omega.{arith}
 use native.Mathlib.Numerals.{add-one}
 use native.Mathlib.Nat.{min-eq-left}
 use borrow.Author.Tests.{lt-ltb, le-ltb}
 use lib.Dec.{ltb, leb}
-use lib.ListN.{length, take, drop, getD, set, replicate, length-map, length-append, drop-of-length-le}
-use lib.Seq.{drop-cons, take-all, take-suc, getD-take, length-take-le, set-at, append-snoc}
+use lib.ListN.{length, take, drop, getD, set, drop-of-length-le}
+use lib.Seq.{drop-cons, getD-take, length-take-le}
 use Rattle.words.specs.Choice.{if_then_else_}
-use Rattle.words.specs.Lists.{below}
 use Rattle.ticks.specs.Ticks.{most, laterBy}
 use Rattle.ticks.specs.declared.Instant.{Instant}
 use Rattle.ticks.specs.declared.Length.{Length}
@@ -24,45 +23,6 @@ use Rattle.kernel.specs.Noted.{notedOf, noteOf, firstsAfter}
 -- an instant and a length after it, where the sum has room
 pub later-is : (i : Instant) (l : Length) → i .0 + l .0 ≤ most → laterBy i l ≡ instant (i .0 + l .0)
 later-is i l h = ap instant (min-eq-left h)
-
-map-snoc : {A B : Type 0} (f : A → B) (xs : List A) (x : A) → map f (xs ++ (x ∷ [])) ≡ map f xs ++ (f x ∷ [])
-map-snoc f [] x = refl
-map-snoc f (a ∷ xs) x = ap (λ l. f a ∷ l) (map-snoc f xs x)
-
--- one element more in an array of N, the rest of which holds z
-fill : {B : Type 0} (ps : List B) (z y : B) (N i : ℕ) → length ps ≡ i → i < N → set (ps ++ replicate (N - i) z) i y ≡ (ps ++ (y ∷ [])) ++ replicate (N - (i + 1)) z
-fill ps z y N i e h =
-    let a : N - i ≡ suc (N - (i + 1)) = omega arith in
-    ap (λ k. set (ps ++ replicate k z) i y) a ∙ set-at ps z (replicate (N - (i + 1)) z) y i e ∙ sym (append-snoc ps y (replicate (N - (i + 1)) z))
-
--- an array of N whose first elements are f of those of xs
-module _ {A B : Type 0} (f : A → B) (z : B) where
-  pub filled-next : (xs : List A) (N i : ℕ) (d : A) (ys : List B) (y : B) → i < length xs → i < N → ys ≡ map f (take i xs) ++ replicate (N - i) z → y ≡ f (getD xs i d)
-      → set ys i y ≡ map f (take (i + 1) xs) ++ replicate (N - (i + 1)) z
-  filled-next xs N i d ys y h l e ey =
-      let a : length (map f (take i xs)) ≡ i = length-map (take i xs) f ∙ length-take-le i xs (omega arith) in
-      ap (λ k. set k i y) e ∙ fill (map f (take i xs)) z y N i a l
-      ∙ ap (λ k. (map f (take i xs) ++ (k ∷ [])) ++ replicate (N - (i + 1)) z) ey
-      ∙ ap (λ k. k ++ replicate (N - (i + 1)) z) (sym (map-snoc f (take i xs) (getD xs i d)) ∙ ap (map f) (sym (take-suc xs i d h)) ∙ ap (λ k. map f (take k xs)) (sym (add-one i)))
-
-  pub filled-all : (xs : List A) (N i : ℕ) (ys : List B) → length xs ≡ N → N ≤ i → ys ≡ map f (take i xs) ++ replicate (N - i) z → ys ≡ map f xs
-  filled-all xs N i ys len h e =
-      let a : N - i ≡ 0 = omega arith in
-      e ∙ ap (λ k. map f (take i xs) ++ replicate k z) a ∙ append-nil (map f (take i xs)) ∙ ap (map f) (take-all i xs (omega (arith, len)))
-
--- an array of N whose first elements are f of 0, 1, 2, ..
-below-length : (n : ℕ) → length (below n) ≡ n
-unfolding below
-below-length zero = refl
-below-length (suc n) = length-append (below n) (n ∷ []) ∙ omega (arith, below-length n)
-
-pub counted-next : {B : Type 0} (f : ℕ → B) (z : B) (N i : ℕ) (ys : List B) (y : B) → i < N → ys ≡ map f (below i) ++ replicate (N - i) z → y ≡ f i
-    → set ys i y ≡ map f (below (i + 1)) ++ replicate (N - (i + 1)) z
-unfolding below
-counted-next f z N i ys y l e ey =
-    ap (λ k. set k i y) e ∙ fill (map f (below i)) z y N i (length-map (below i) f ∙ below-length i) l
-    ∙ ap (λ k. (map f (below i) ++ (k ∷ [])) ++ replicate (N - (i + 1)) z) ey
-    ∙ ap (λ k. k ++ replicate (N - (i + 1)) z) (sym (map-snoc f (below i) i) ∙ ap (λ k. map f (below k)) (sym (add-one i)))
 
 -- the cell that stands behind the last
 abbrev pub noCell : Cell
@@ -133,10 +93,3 @@ pub firsts-next : (n : ℕ) (plan : List (List ℕ)) (k : ℕ) (m : Machine) (fi
 unfolding firstsAfter
 firsts-next n plan k m firsts em ef =
     ap (λ x. noteOf n x firsts) (em ∙ ap (ticked n plan) (add-one k)) ∙ ap (noteOf n (ticked n plan (suc k))) ef ∙ ap (firstsAfter n plan) (sym (add-one k))
-
--- a list of 0, 1, 2, .. by two functions that agree there
-pub counted-same : {B : Type 0} (f g : ℕ → B) (n : ℕ) → ((k : ℕ) → k < n → f k ≡ g k) → map f (below n) ≡ map g (below n)
-unfolding below
-counted-same f g zero h = refl
-counted-same f g (suc n) h =
-    map-snoc f (below n) n ∙ ap (λ l. l ++ (f n ∷ [])) (counted-same f g n (λ k l. h k (omega arith))) ∙ ap (λ x. map g (below n) ++ (x ∷ [])) (h n (omega arith)) ∙ sym (map-snoc g (below n) n)

@@ -1,28 +1,25 @@
 -- The three demands of specs/Demands, shown.
 use mathlib.Core.Path.{_≡_, refl, sym, ap, _∙_}
 use mathlib.Core.Bool.{Bool, true, false, false≢true}
-use mathlib.Core.List.{List, [], _∷_, _++_, map}
+use mathlib.Core.List.{List, [], _∷_}
 use mathlib.Core.Option.{Option, none, some}
 use Prim.Native.Nat.{ℕ, zero, suc, _+_, _-_, _≤_, _<_}
 use native.Mathlib.Omega.{arith}
 use native.Mathlib.Decide.{decLe}
-use lib.Dec.{ltb, leb}
-use lib.ListN.{length, getD, length-map}
-use lib.Seq.{append-snoc, getD-append-seam}
-use borrow.Author.Tests.{ltb-true, lt-ltb, le-ltb, le-leb, leb-true, lt-leb}
-use Rattle.words.specs.Choice.{if_then_else_, _and_}
-use Rattle.words.specs.Lists.{below}
+use lib.Dec.{leb}
+use lib.ListN.{length, getD}
+use borrow.Author.Tests.{ltb-true, lt-ltb, le-leb}
+use Rattle.words.specs.Choice.{if_then_else_}
 use Rattle.words.specs.Buffer.{placed}
 use Rattle.words.proofs.Choice.{if-true, if-false, and-parts, and-both}
-use Rattle.words.proofs.Buffer.{placed-fits, placed-short}
 use Rattle.table.specs.Limits.{mostTicks}
-use Rattle.table.specs.Paper.{Row, Table, rowAt, waits, rightTable}
-use Rattle.table.specs.Value.{long, tableOf, tableValue, wellFormed}
+use Rattle.table.specs.Paper.{Row, rowAt, waits, rightTable}
+use Rattle.table.specs.Value.{tableOf, wellFormed}
 use Rattle.table.specs.declared.Table.{Table as TableValue}
 use Rattle.table.proofs.Rules.{value-forth, value-back, value-right, table-right}
 use Rattle.refusals.specs.declared.Refusal.the-variants.{NoRoom}
 use Rattle.text.specs.declared.Written.the-variants.{Bytes, Refused as NotWritten}
-use Rattle.text.specs.Read.{accepted, refused, readText, readingOf}
+use Rattle.text.specs.Read.{readingOf}
 use Rattle.text.specs.Write.{tableText, written, writtenInto}
 use Rattle.text.proofs.Back.{text-back, text-right, text-one}
 use Rattle.text.proofs.Forth.{text-forth}
@@ -30,19 +27,20 @@ use Rattle.text.proofs.Fits.{text-fits}
 use Rattle.ticks.specs.declared.Length.{Length}
 use Rattle.ticks.specs.declared.Instant.{Instant}
 use Rattle.figures.specs.declared.Bound.{Bound}
-use Rattle.figures.specs.declared.Verdict.the-variants.{Fits, Misses}
+use Rattle.figures.specs.declared.Verdict.the-variants.{Fits}
 use Rattle.kernel.specs.declared.First.the-variants.{At}
 use Rattle.figures.specs.declared.RowFigures.{RowFigures}
-use Rattle.figures.specs.Figures.{verdict, right, own}
+use Rattle.figures.specs.Figures.{verdict}
 use Rattle.figures.specs.Answers.{rowAnswer, figuresOf}
 use Rattle.figures.specs.declared.Answer.the-variants.{Row as RowIs}
 use Rattle.figures.proofs.Verdicts.{one-fits, one-misses, one-whole, waiting-whole, waiting-split, waiting-open, waiting-misses}
-use Rattle.figures.proofs.Tables.{map-below, length-below}
+use Rattle.words.proofs.Filled.{filled-at}
 use Rattle.kernel.specs.declared.FullRun.{FullRun}
 use Rattle.kernel.specs.declared.Slot.{Slot}
 use Rattle.kernel.specs.Rules.{Job, job, after, full, Complete}
-use Rattle.kernel.specs.Run.{firstDone, orElse, completion, slotOf, completions, fullRun}
-use Rattle.promises.specs.Demands.{RefusedText, RefusedTable, ShortBuffer, TextBack, OneText, TableBack, Smallest, Asked, OneStretch, WaitingRow, InTime, FullRunLegal, Exact, Missed, completed}
+use Rattle.kernel.specs.Run.{firstDone, orElse, completion, slotOf, completions}
+use Rattle.kernel.proofs.Completions.{run-there}
+use Rattle.promises.specs.Demands.{RefusedText, RefusedTable, ShortBuffer, TextBack, OneText, TableBack, Asked, OneStretch, WaitingRow, InTime, FullRunLegal, Exact, Missed, completed}
 use Rattle.promises.proofs.Fits.{rules, fits-deadline, fits-in-time}
 use Rattle.promises.proofs.Exact.{full-legal, exact-before, exact-from, exact-misses}
 
@@ -198,27 +196,11 @@ module _ (rows : ℕ → Row) (k : ℕ) where
           = sym (ap (λ o. orElse o (if firstDone (after (full rows) (suc n) k) then some (suc n) else none)) p ∙ if-false (some (suc n)) none f) ∙ e in
           absurd (let y : _≡_ {A = ℕ} 0 1 = cc in omega arith)
 
--- the answer stands at the row's place
-placed-at : {A : Type 0} (f : ℕ → A) (n : ℕ) (xs : List A) (d : A) (k : ℕ) → k < n → getD (map f (below n) ++ xs) k d ≡ f k
-placed-at f zero xs d k h = absurd (omega arith)
-placed-at f (suc n) xs d k h = go (decLe n k) (placed-at f n (f n ∷ xs) d k)
-  where
-    split : map f (below (suc n)) ++ xs ≡ map f (below n) ++ (f n ∷ xs)
-    split = ap (λ l. l ++ xs) (map-below f n) ∙ append-snoc (map f (below n)) (f n) xs
-
-    go : Dec (n ≤ k) → (k < n → getD (map f (below n) ++ (f n ∷ xs)) k d ≡ f k) → getD (map f (below (suc n)) ++ xs) k d ≡ f k
-    go (yes l) ih =
-        let z : length (map f (below n)) ≡ k = length-map (below n) f ∙ length-below n ∙ (let y : n ≡ k = omega arith in y) in
-        let y : n ≡ k = omega arith in
-        ap (λ l. getD l k d) split ∙ ap (λ i. getD (map f (below n) ++ (f n ∷ xs)) i d) (sym z) ∙ getD-append-seam (map f (below n)) (f n) xs d ∙ ap f y
-    go (no l) ih = ap (λ l. getD l k d) split ∙ ih (omega arith)
-
 completed-is : (v : TableValue) (n k : ℕ) → wellFormed v ≡ true → n ≤ mostTicks → k < length (tableOf v) → completed v n k ≡ slotOf (completion (rowAt (tableOf v)) k n) .first
-unfolding fullRun completions
+unfolding completions
 completed-is v n k ok h l =
-    let e : fullRun v n ≡ record { outcome = _; rows = completions (tableOf v) n } = if-true _ _ ok ∙ if-false _ _ (le-ltb mostTicks n h) in
-    ap (λ (r : FullRun). getD (r .rows) k (slotOf none) .first) e
-    ∙ ap (λ (s : Slot). s .first) (placed-at (λ i. slotOf (completion (rowAt (tableOf v)) i n)) (length (tableOf v)) _ (slotOf none) k l)
+    ap (λ (r : FullRun). getD (r .rows) k (slotOf none) .first) (run-there v n ok h)
+    ∙ ap (λ (s : Slot). s .first) (filled-at (λ i. slotOf (completion (rowAt (tableOf v)) i n)) (length (tableOf v)) _ (slotOf none) k l)
 
 -- a figure is never 0
 positive-figure : (v : TableValue) (k : ℕ) (a : RowFigures) → Asked v k a → waits (rowAt (tableOf v) k) ≡ false → (b : Bound) (R : Length) → a .verdict ≡ Fits b R → 1 ≤ R .0

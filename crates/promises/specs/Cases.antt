@@ -8,7 +8,8 @@ use Rattle.words.specs.Lists.{any}
 use Rattle.refusals.specs.declared.Refusal.the-variants.{NoText, FieldCount}
 use Rattle.table.specs.Paper.{Row, Table, rowAt, parts, waits, rightCount}
 use Rattle.table.specs.Value.{long}
-use Rattle.text.specs.Split.{lineFeed, lines, fields}
+use Rattle.fields.specs.Fields.{lineFeed}
+use Rattle.text.specs.Split.{lines, fields}
 use Rattle.text.specs.Read.{Answer, refused, rightFields, readLine, readLines, readText}
 use Rattle.figures.specs.declared.Bound.the-variants.{Whole, Split}
 use Rattle.figures.specs.declared.Verdict.{Verdict}

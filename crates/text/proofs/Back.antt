@@ -16,10 +16,15 @@ use Rattle.decimal.specs.declared.Number.the-variants.{Is, No}
 use Rattle.decimal.proofs.Reading.{digits-number}
 use Rattle.table.specs.Limits.{mostRows, largestNumber, longestText}
 use Rattle.table.specs.Paper.{Row, Table, rightName, rightNumber, rightCount, rightRow, waits, named, rightRows, rightTable}
+use Rattle.table.specs.Value.{tableOf, tableValue, wellFormed}
+use Rattle.table.proofs.Rules.{value-back, value-right, table-right}
 use Rattle.refusals.specs.declared.Refusal.{Refusal}
 use Rattle.refusals.specs.declared.Refusal.the-variants.{NoText, LongText, NoLineFeed, ManyLines, AfterWaiting, FieldCount, BadName, BadNumber, LateDeadline, LongTimes, NameTaken}
-use Rattle.text.specs.Split.{lineFeed, lines, fields}
-use Rattle.text.specs.Read.{Answer, accepted, refused, Line, got, bad, fixedFields, rightFields, noRow, withName, withNumber, onNumber, onLine, readFields, checkRow, readLine, readLines, readText}
+use Rattle.fields.specs.Fields.{lineFeed}
+use Rattle.text.specs.declared.Outcome.the-variants.{Accepted, Refused}
+use Rattle.text.specs.declared.Reading.{Reading}
+use Rattle.text.specs.Split.{lines, fields}
+use Rattle.text.specs.Read.{Answer, accepted, refused, Line, got, bad, fixedFields, rightFields, noRow, withName, withNumber, onNumber, onLine, readFields, checkRow, readLine, readLines, readText, readingOf}
 use Rattle.text.specs.Write.{tableText}
 use Rattle.text.proofs.Split.{joined-fields, unlines-lines, lines-some}
 use Rattle.text.proofs.Lines.{right-row, right-number, fieldsOf, lineOf, table-lines}
@@ -214,3 +219,29 @@ text-right s t e =
 -- A TABLE HAS EXACTLY ONE TEXT
 pub text-one : (s s′ : List ℕ) (t : Table) → readText s ≡ accepted t → readText s′ ≡ accepted t → s ≡ s′
 text-one s s′ t e e′ = sym (text-back s t e) ∙ text-back s′ t e′
+
+-- a reading that was accepted has a well-formed table, which stands for the text's
+pub reading-accepted : (s : List ℕ) (r : Reading) → r ≡ readingOf (readText s) → r .outcome ≡ Accepted → (wellFormed (r .table) ≡ true) × (readText s ≡ accepted (tableOf (r .table)))
+reading-accepted s r e o = go (readText s) refl
+  where
+    go : (a : Answer) → readText s ≡ a → (wellFormed (r .table) ≡ true) × (readText s ≡ accepted (tableOf (r .table)))
+    go (accepted t) p =
+        let q : r .table ≡ tableValue t = ap (λ (x : Reading). x .table) (e ∙ ap readingOf p) in
+        let ok = text-right s t p in
+        (ap wellFormed q ∙ value-right t ok, p ∙ ap accepted (sym (ap tableOf q ∙ value-back t (table-right t ok))))
+    go (refused x) p =
+        let z : Accepted ≡ Refused x = sym o ∙ ap (λ (y : Reading). y .outcome) (e ∙ ap readingOf p) in
+        absurd (let y : _≡_ {A = ℕ} 0 1 = cc in omega arith)
+
+-- one that was refused has the text's refusal
+pub reading-refused : (s : List ℕ) (r : Reading) (x : Refusal) → r ≡ readingOf (readText s) → r .outcome ≡ Refused x → readText s ≡ refused x
+reading-refused s r x e o = go (readText s) refl
+  where
+    go : (a : Answer) → readText s ≡ a → readText s ≡ refused x
+    go (accepted t) p =
+        let z : Refused x ≡ Accepted = sym o ∙ ap (λ (y : Reading). y .outcome) (e ∙ ap readingOf p) in
+        absurd (let y : _≡_ {A = ℕ} 0 1 = cc in omega arith)
+    go (refused w) p =
+        let z : Refused x ≡ Refused w = sym o ∙ ap (λ (y : Reading). y .outcome) (e ∙ ap readingOf p) in
+        let q : w ≡ x = cc in
+        p ∙ ap refused q

@@ -2,35 +2,20 @@
 use mathlib.Core.Path.{_≡_, refl}
 use mathlib.Core.Bool.{true}
 use mathlib.Core.List.{List, [], _∷_, _++_}
-use Prim.Native.Nat.{ℕ, suc, _+_, _*_, _/_, _≤_, _<_}
+use Prim.Native.Nat.{ℕ, suc, _+_, _*_, _≤_}
 use native.Mathlib.Omega.{arith}
 use native.Mathlib.Nat.{mul-le-mul-right}
-use native.Mathlib.Decide.{decLt}
 use lib.ListN.{length, length-append}
 use borrow.Author.Tests.{leb-true}
 use Rattle.words.specs.Lists.{all}
 use Rattle.words.proofs.Choice.{and-parts}
 use Rattle.decimal.specs.Decimal.{digits, lastDigits}
-use Rattle.decimal.proofs.Digits.{by-last-digit, length-small, length-big, length-some}
+use Rattle.decimal.proofs.Digits.{length-grows}
 use Rattle.table.specs.Limits.{mostRows, mostTimes, longestName, largestNumber, longestText}
 use Rattle.table.specs.Paper.{Row, Table, rightNumber, rightRow, rightRows, rightTable}
 use Rattle.table.proofs.Rules.{row-name, row-count, number-range, name-length, count-most}
 use Rattle.text.specs.Write.{numbersText, lineText, tableText}
 use Rattle.text.proofs.Lines.{row-numbers, length-line}
-
--- a greater number has no fewer digits
-length-grows : (m n : ℕ) → n ≤ m → length (digits n) ≤ length (digits m)
-length-grows = by-last-digit (λ m. (n : ℕ) → n ≤ m → length (digits n) ≤ length (digits m)) small big
-  where
-    small : (m : ℕ) → m < 10 → (n : ℕ) → n ≤ m → length (digits n) ≤ length (digits m)
-    small m h n k = omega (arith, length-small m h, length-small n (omega arith))
-
-    big : (m : ℕ) → 10 ≤ m → ((n : ℕ) → n ≤ m / 10 → length (digits n) ≤ length (digits (m / 10))) → (n : ℕ) → n ≤ m → length (digits n) ≤ length (digits m)
-    big m h ih n k = go (decLt n 10)
-      where
-        go : Dec (n < 10) → length (digits n) ≤ length (digits m)
-        go (yes a) = omega (arith, length-small n a, length-some m)
-        go (no a) = omega (arith, length-big n (omega arith), length-big m h, ih (n / 10) (omega arith))
 
 -- a tab and a number
 unfoldable pub longestField : ℕ

@@ -15,7 +15,8 @@ use Rattle.decimal.proofs.Reading.{number-digits}
 use Rattle.table.specs.Limits.{mostRows, largestNumber}
 use Rattle.table.specs.Paper.{Row, Table, rightNumber, rightCount, rightRow, waits, named, rightRows, rightTable}
 use Rattle.table.proofs.Rules.{row-name, row-count, row-order, row-sum, number-range}
-use Rattle.text.specs.Split.{lineFeed, lines, fields}
+use Rattle.fields.specs.Fields.{lineFeed}
+use Rattle.text.specs.Split.{lines, fields}
 use Rattle.text.specs.Read.{accepted, got, fixedFields, rightFields, noRow, withName, withNumber, readFields, readLine, readLines, readText}
 use Rattle.text.specs.Write.{numbersText, lineText, tableText}
 use Rattle.text.proofs.Split.{unlines}

@@ -7,3 +7,4 @@ pub mod Forth
 pub mod Values
 pub mod Reader
 pub mod Writer
+pub mod Places

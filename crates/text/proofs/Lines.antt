@@ -17,7 +17,8 @@ use Rattle.table.specs.Limits.{largestNumber}
 use Rattle.table.specs.Paper.{Row, Table, nameByte, rightName, rightNumber, rightCount, rightRow}
 use Rattle.table.proofs.Rows.{number-some}
 use Rattle.table.proofs.Rules.{row-period, row-deadline, row-times}
-use Rattle.text.specs.Split.{lineFeed, tab, lines, fields}
+use Rattle.fields.specs.Fields.{lineFeed, tab}
+use Rattle.text.specs.Split.{lines, fields}
 use Rattle.text.specs.Write.{numbersText, lineText, tableText}
 use Rattle.text.proofs.Split.{tabbed, joined, unlines, lacks-cons, lacks-by, fields-one, fields-more, lines-feed}
 

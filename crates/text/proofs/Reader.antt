@@ -21,7 +21,8 @@ use Rattle.table.specs.Limits.{mostRows, mostTimes, longestName, largestNumber}
 use Rattle.table.specs.Paper.{Row, Table, rightName, rightRow, waits, named}
 use Rattle.table.specs.Value.{ticks, rowOf, rowValue, emptyRow, tableOf, tableValue, emptyTable, nameIn}
 use Rattle.table.proofs.Rules.{name-lacks, count-most}
-use Rattle.text.specs.Split.{lineFeed, tab, lines, fields}
+use Rattle.fields.specs.Fields.{lineFeed, tab}
+use Rattle.text.specs.Split.{lines, fields}
 use Rattle.text.specs.Read.{accepted, refused, got, bad, fixedFields, rightFields, noRow, withName, withNumber, readFields, checkRow, readLine, readLines, readText}
 use Rattle.text.proofs.Split.{fieldsFrom, found-le, lines-at, lines-end, from-zero, from-end, fields-at}
 use Rattle.text.proofs.Steps.{fields-over, bad-name, next-name, bad-number, next-number, late-deadline, long-times, name-taken, row-checked, after-waiting, field-count, bad-field, row-read, lines-over, many-lines, bad-line, next-line}

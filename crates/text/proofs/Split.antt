@@ -14,7 +14,8 @@ use Rattle.words.specs.Choice.{if_then_else_}
 use Rattle.words.specs.Lists.{all, upTo}
 use Rattle.words.proofs.Choice.{and-parts, and-both}
 use Rattle.words.proofs.Lists.{lacks, length-upTo, take-upTo}
-use Rattle.text.specs.Split.{lineFeed, tab, onFirst, lines, fields}
+use Rattle.fields.specs.Fields.{lineFeed, tab}
+use Rattle.text.specs.Split.{onFirst, lines, fields}
 
 -- the bytes behind the first b
 past : ℕ → List ℕ → List ℕ

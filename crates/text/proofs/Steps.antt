@@ -13,7 +13,8 @@ use Rattle.table.specs.Limits.{mostRows, largestNumber, longestText}
 use Rattle.table.specs.Paper.{Row, Table, rightName, waits, named}
 use Rattle.refusals.specs.declared.Refusal.{Refusal}
 use Rattle.refusals.specs.declared.Refusal.the-variants.{NoText, LongText, NoLineFeed, ManyLines, AfterWaiting, FieldCount, BadName, BadNumber, LateDeadline, LongTimes, NameTaken}
-use Rattle.text.specs.Split.{lineFeed, lines, fields}
+use Rattle.fields.specs.Fields.{lineFeed}
+use Rattle.text.specs.Split.{lines, fields}
 use Rattle.text.specs.Read.{accepted, refused, got, bad, rightFields, noRow, withName, withNumber, readFields, checkRow, readLine, readLines, readText}
 
 -- the fields of line n from field f on, where r is the row so far

@@ -5,64 +5,29 @@ use mathlib.Core.List.{List, [], _∷_, _++_, map, map-append, append-assoc, app
 use Prim.Native.Nat.{ℕ, suc, _+_, _-_, _≤_, _<_}
 use native.Mathlib.Omega.{arith}
 use native.Mathlib.Numerals.{add-one}
-use lib.ListN.{length, getD, take, drop, set, length-append, drop-of-length-le, take-append-drop, List·getD-map}
+use lib.ListN.{length, getD, take, drop, length-append, drop-of-length-le, take-append-drop, List·getD-map}
 use lib.Seq.{take-take, take-suc, drop-cons, getD-take, take-add}
 use borrow.Author.Tests.{le-leb, lt-leb}
 use Rattle.words.specs.Lists.{upTo}
 use Rattle.words.specs.Buffer.{over}
-use Rattle.words.proofs.Buffer.{over-nil, over-snoc, over-part, length-over, part-room, placed-fits, placed-short}
+use Rattle.words.proofs.Buffer.{placed-fits, placed-short}
 use Rattle.words.proofs.Lists.{take-upTo, all-each}
 use Rattle.decimal.specs.Decimal.{digits}
 use Rattle.table.specs.declared.Row.{Row as RowValue}
 use Rattle.table.specs.declared.Table.{Table as TableValue}
+use Rattle.refusals.specs.declared.Refusal.{Refusal}
 use Rattle.refusals.specs.declared.Refusal.the-variants.{BadTable, NoRoom}
 use Rattle.table.specs.Limits.{mostRows, longestText}
 use Rattle.table.specs.Paper.{Row, Table, rightRow}
 use Rattle.table.specs.Value.{noValue, ticks, long, rowOf, tableOf, wellFormed}
 use Rattle.table.proofs.Rows.{time-at}
 use Rattle.table.proofs.Rules.{value-forth, table-size, table-right}
-use Rattle.text.specs.Split.{lineFeed, tab}
-use Rattle.text.specs.Write.{numbersText, lineText, tableText, written, writtenInto}
+use Rattle.fields.specs.Fields.{lineFeed, tab}
+use Rattle.text.specs.Write.{numbersText, lineText, tableText, lengthIn, written, writtenInto}
 use Rattle.text.specs.Parts.{headText}
 use Rattle.text.specs.declared.Written.the-variants.{Bytes, Refused}
 use Rattle.text.proofs.Fits.{text-fits}
 use Rattle.text.proofs.Values.{table-length, rows-sized}
-
--- bs stands at the front of x, which was d: the next byte is put at `at`
-pub record Put (bs d x : List ℕ) (at : ℕ) : Type 0 where
-  pub front : x ≡ over bs d
-  pub end : at ≡ length bs
-  pub kept : length x ≡ length d
-
-pub put-over : (bs d x : List ℕ) (at : ℕ) → at ≡ length bs → x ≡ over bs d → length bs ≤ length d → Put bs d x at
-put-over bs d x at a e h = record { front = e; end = a; kept = ap length e ∙ length-over bs d h }
-
-pub put-none : (d : List ℕ) → Put [] d d 0
-put-none d = record { front = sym (over-nil d); end = refl; kept = refl }
-
--- one byte more
-pub put-byte : {bs d x : List ℕ} {at : ℕ} (b : ℕ) → Put bs d x at → length bs < length d → Put (bs ++ (b ∷ [])) d (set x at b) (at + 1)
-put-byte {bs} {d} {x} {at} b p h =
-    let l = length-append bs (b ∷ []) in
-    put-over (bs ++ (b ∷ [])) d (set x at b) (at + 1) (omega (arith, l, p .end)) (rw (p .front, p .end) (over-snoc bs d b h)) (omega (arith, l))
-
--- the buffer x after its part from `at` on, lent to a call, became y
-abbrev pub spliced : List ℕ → ℕ → List ℕ → List ℕ
-spliced x at y = take at x ++ (y ++ drop (length x - at) (drop at x))
-
--- a part, put into the rest of the buffer
-pub put-part : {bs d x : List ℕ} {at : ℕ} (cs y : List ℕ) (r : ℕ) → Put bs d x at → length bs + length cs ≤ length d
-    → (r ≡ length cs) × (y ≡ over cs (take (length x - at) (drop at x))) → Put (bs ++ cs) d (spliced x at y) (at + r)
-put-part {bs} {d} {x} {at} cs y r p h e =
-    let l = length-append bs cs in
-    put-over (bs ++ cs) d (spliced x at y) (at + r) (omega (arith, l, p .end, e .0)) (rw (e .1) (over-part bs cs d x at (length x - at) (p .front) (p .end) refl h)) (omega (arith, l))
-
--- what is put next lies within the buffer, and has the room that is left
-pub put-within : {bs d x : List ℕ} {at : ℕ} → Put bs d x at → length bs ≤ length d → at ≤ length x
-put-within p h = omega (arith, p .end, p .kept)
-
-pub put-room : {bs d x : List ℕ} {at : ℕ} (m : ℕ) → Put bs d x at → length bs + m ≤ length d → m ≤ length (take (length x - at) (drop at x))
-put-room {bs} {d} {x} {at} m p h = part-room x at m (omega (arith, p .end, p .kept))
 
 -- numbers, one after the other
 
@@ -189,6 +154,14 @@ sound v e =
       short = text-fits t (f .1);
     }
 
+-- where there is room and where there is not
+
+pub length-short : (bs d : List ℕ) → length d < length bs → lengthIn bs d ≡ Refused NoRoom
+length-short bs d h = rw (lt-leb (length bs) (length d) h)
+
+pub length-whole : (bs d : List ℕ) → length bs ≤ length d → lengthIn bs d ≡ Bytes (length bs)
+length-whole bs d h = rw (le-leb (length bs) (length d) h)
+
 -- the three answers
 
 pub written-bad : (v : TableValue) (d : List ℕ) → wellFormed v ≡ false → (written v d ≡ Refused BadTable) × (writtenInto v d ≡ d)
@@ -197,9 +170,17 @@ written-bad v d e = (rw e, rw e)
 
 pub written-short : (v : TableValue) (d : List ℕ) → wellFormed v ≡ true → length d < length (tableText (tableOf v)) → (written v d ≡ Refused NoRoom) × (writtenInto v d ≡ d)
 unfolding written writtenInto
-written-short v d e h = (rw (e, lt-leb (length (tableText (tableOf v))) (length d) h), rw e (placed-short (tableText (tableOf v)) d h))
+written-short v d e h = (rw e (length-short (tableText (tableOf v)) d h), rw e (placed-short (tableText (tableOf v)) d h))
 
 pub written-whole : (v : TableValue) (d : List ℕ) → wellFormed v ≡ true → length (tableText (tableOf v)) ≤ length d
     → (written v d ≡ Bytes (length (tableText (tableOf v)))) × (writtenInto v d ≡ over (tableText (tableOf v)) d)
 unfolding written writtenInto
-written-whole v d e h = (rw (e, le-leb (length (tableText (tableOf v))) (length d) h), rw e (placed-fits (tableText (tableOf v)) d h))
+written-whole v d e h = (rw e (length-whole (tableText (tableOf v)) d h), rw e (placed-fits (tableText (tableOf v)) d h))
+
+-- the two kinds of answers differ, and each tells what it holds
+
+pub bytes-same : (m n : ℕ) → Bytes m ≡ Bytes n → m ≡ n
+bytes-same m n e = cc
+
+pub refused-none : (why : Refusal) (n : ℕ) → Refused why ≡ Bytes n → ⊥
+refused-none why n e = let z : _≡_ {A = ℕ} 0 1 = cc in omega arith

@@ -1,7 +1,7 @@
 -- What reading a text gives: document 01, 'Refusal numbers', in the order in which it tests.
-use mathlib.Core.Bool.{Bool, true, false, not}
+use mathlib.Core.Bool.{Bool}
 use mathlib.Core.List.{List, [], _∷_, _++_}
-use Prim.Native.Nat.{ℕ, suc, _+_, _-_}
+use Prim.Native.Nat.{ℕ, _+_, _-_}
 use lib.Dec.{eqb, ltb}
 use lib.ListN.{length, getD}
 use Rattle.words.specs.Choice.{if_then_else_}
@@ -16,7 +16,8 @@ use Rattle.refusals.specs.declared.Refusal.{Refusal}
 use Rattle.refusals.specs.declared.Refusal.the-variants.{NoText, LongText, NoLineFeed, ManyLines, AfterWaiting, FieldCount, BadName, BadNumber, LateDeadline, LongTimes, NameTaken}
 use Rattle.text.specs.declared.Outcome.the-variants.{Accepted, Refused}
 use Rattle.text.specs.declared.Reading.{Reading}
-use Rattle.text.specs.Split.{lineFeed, lines, fields}
+use Rattle.fields.specs.Fields.{lineFeed}
+use Rattle.text.specs.Split.{lines, fields}
 
 -- a table, or the refusal that ended the reading
 pub data Answer : Type 0 where

@@ -3,14 +3,7 @@ use mathlib.Core.List.{List, [], _∷_}
 use Prim.Native.Nat.{ℕ}
 use lib.Dec.{eqb}
 use Rattle.words.specs.Choice.{if_then_else_}
-
--- the byte that ends a line
-abbrev pub lineFeed : ℕ
-lineFeed = 10
-
--- the byte between two fields
-abbrev pub tab : ℕ
-tab = 9
+use Rattle.fields.specs.Fields.{lineFeed, tab}
 
 -- the byte x in front of the first of several parts
 unfoldable pub onFirst : ℕ → List (List ℕ) → List (List ℕ)

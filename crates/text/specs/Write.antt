@@ -12,7 +12,7 @@ use Rattle.table.specs.declared.Table.{Table as TableValue}
 use Rattle.refusals.specs.declared.Refusal.the-variants.{BadTable, NoRoom}
 use Rattle.text.specs.declared.Written.{Written}
 use Rattle.text.specs.declared.Written.the-variants.{Bytes, Refused}
-use Rattle.text.specs.Split.{lineFeed, tab}
+use Rattle.fields.specs.Fields.{lineFeed, tab}
 
 -- numbers, a tab before each
 unfoldable pub numbersText : List ℕ → List ℕ
@@ -28,12 +28,13 @@ unfoldable pub tableText : Table → List ℕ
 tableText [] = []
 tableText (r ∷ rs) = lineText r ++ tableText rs
 
+-- the length of what is to be put into a buffer; 22 where it is too short
+abbrev pub lengthIn : List ℕ → List ℕ → Written
+lengthIn bs d = if leb (length bs) (length d) then Bytes (length bs) else Refused NoRoom
+
 -- 20, then 22, else the length
 unfoldable pub written : TableValue → List ℕ → Written
-written v d =
-    if wellFormed v
-    then (if leb (length (tableText (tableOf v))) (length d) then Bytes (length (tableText (tableOf v))) else Refused NoRoom)
-    else Refused BadTable
+written v d = if wellFormed v then lengthIn (tableText (tableOf v)) d else Refused BadTable
 
 -- the buffer afterwards: unchanged after a refusal
 unfoldable pub writtenInto : TableValue → List ℕ → List ℕ

@@ -1,20 +1,22 @@
 // The text of a table: read line by line and field by field, and written into a lent buffer.
 ghost use mathlib.Core.Path.{_≡_};
 ghost use mathlib.Core.Bool.{true};
-ghost use mathlib.Core.List.{_∷_, map};
+ghost use mathlib.Core.List.{map};
 ghost use Prim.Native.Nat.{suc, _+_, _-_, _≤_, _<_};
 ghost use lib.ListN.{length, take, drop};
 ghost use Rattle.words.specs.Lists.{upTo, padded};
 ghost use Rattle.words.specs.Buffer.{over};
-ghost use Rattle.decimal.specs.Decimal.{digits};
 ghost use Rattle.table.specs.Limits.{mostTimes, longestName};
 ghost use Rattle.table.specs.Paper.{rightRow};
 ghost use Rattle.table.specs.Value.{ticks, rowOf, rowValue, tableOf, wellFormed};
-ghost use Rattle.text.specs.Split.{tab, fields};
+ghost use Rattle.fields.specs.Fields.{tab};
+ghost use Rattle.text.specs.Split.{fields};
 ghost use Rattle.text.specs.Read.{fixedFields, rightFields, withNumber, refused as refusedText, readText, readingOf};
 ghost use Rattle.text.specs.Parts.{headText};
 ghost use Rattle.text.specs.Write.{numbersText, lineText, tableText, written, writtenInto};
 use decimal::Number;
+use fields::LINE_FEED;
+use fields::TAB;
 use refusals::Refusal;
 use table::Row;
 use table::Table;
@@ -37,12 +39,6 @@ pub enum Written {
     Bytes(usize),
     Refused(Refusal),
 }
-
-// The byte between two fields.
-const TAB: u8 = 9;
-
-// The byte that ends a line.
-const LINE_FEED: u8 = 10;
 
 // The fields of a line before its times: name, T, D.
 const FIXED: usize = 3;
@@ -212,15 +208,6 @@ pub fn read(text: &[u8]) -> Reading
     answer
 }
 
-// Writes a tab and a number.
-fn write_number(n: u64, out: &mut [u8]) -> usize
-    requires { ⌜ length (digits n) < length (now out) ⌝ }
-    ensures { λ r. ⌜ (r ≡ length (tab ∷ digits n)) × (now (out .exit) ≡ over (tab ∷ digits n) (now (out .entry))) ⌝ }
-{
-    out[0] = TAB;
-    1 + decimal::write(n, &mut out[1..])
-}
-
 // Writes the first so many times of a row, a tab before each.
 fn write_times(times: [Length; Table::TIMES], count: usize, out: &mut [u8]) -> usize
     requires { ⌜ (count ≤ mostTimes) × (length (numbersText (take count (map ticks times))) ≤ length (now out)) ⌝ }
@@ -229,7 +216,7 @@ fn write_times(times: [Length; Table::TIMES], count: usize, out: &mut [u8]) -> u
     let mut at: usize = 0;
     let mut i: usize = 0;
     while i < count {
-        at += write_number(times[i].0, &mut out[at..]);
+        at += fields::write_number(times[i].0, &mut out[at..]);
         i += 1;
     }
     at
@@ -243,8 +230,8 @@ fn write_head(row: Row, out: &mut [u8]) -> usize
     let name = row.name;
     let len = row.name_len();
     let mut at = bytes::copy(&name[..len], out);
-    at += write_number(row.period.0, &mut out[at..]);
-    at += write_number(row.deadline.0, &mut out[at..]);
+    at += fields::write_number(row.period.0, &mut out[at..]);
+    at += fields::write_number(row.deadline.0, &mut out[at..]);
     at
 }
 

@@ -10,13 +10,10 @@ use lib.ListN.{length}
 use Rattle.words.specs.Choice.{if_then_else_}
 use Rattle.table.specs.Value.{tableOf, wellFormed}
 use Rattle.table.specs.declared.Table.{Table}
-use Rattle.refusals.specs.declared.Refusal.{Refusal}
 use Rattle.refusals.specs.declared.Refusal.the-variants.{BadTable, NoRoom}
 use Rattle.text.specs.Write.{tableText, written}
+use Rattle.text.proofs.Writer.{refused-none}
 use Rattle.text.specs.declared.Written.the-variants.{Bytes, Refused}
-
-refused-none : (why : Refusal) (n : ℕ) → Refused why ≡ Bytes n → ⊥
-refused-none why n e = let z : _≡_ {A = ℕ} 0 1 = cc in omega arith
 
 pub written-le : (v : Table) (d : List ℕ) (n : ℕ) → written v d ≡ Bytes n → n ≤ length d
 unfolding written

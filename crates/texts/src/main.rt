@@ -1,16 +1,12 @@
 // Reads a stream of texts, and writes for each what the library makes of it: the text again, written from the table that was read, or the refusal.
 use libc::STDERR_FILENO;
 use libc::STDOUT_FILENO;
+use replies::ITEM;
+use replies::ITEMS;
 use streams::Item;
 use table::Table;
 use text::Outcome;
 use text::Written;
-
-// The most bytes of an item: more than a text may have, so that texts that are too long can be tried.
-const ITEM: usize = 8_192;
-
-// The most items. A proved loop has to end, and nothing says that the input does.
-const ITEMS: u64 = 100_000;
 
 // A table that was read is never refused here: where one were, the line would show it.
 fn write_table(table: Table) {
@@ -32,8 +28,8 @@ fn answer(text: &[u8]) {
         Outcome::Accepted => {
             write_table(reading.table);
         }
-        Outcome::Refused(why) => {
-            lines::put_refused(why);
+        Outcome::Refused(_) => {
+            replies::put_report(text);
         }
     }
 }

@@ -9,6 +9,7 @@ use borrow.Author.Needs.{needs}
 use borrow.Author.Tests.{not-true, not-false}
 use lib.ListN.{length, set}
 use Rattle.words.proofs.Choice.{if-true, if-false}
+use Rattle.words.proofs.Filled.{filled, fill-next}
 use Rattle.table.specs.Paper.{Row, rowAt}
 use Rattle.table.specs.Value.{tableOf, wellFormed}
 use Rattle.table.specs.declared.Table.{Table as TableValue}
@@ -19,7 +20,7 @@ use Rattle.figures.specs.declared.Answer.the-variants.{Row as RowIs, Ref
 use Rattle.figures.specs.declared.RowFigures.{RowFigures}
 use Rattle.figures.specs.declared.TableFigures.{TableFigures}
 use Rattle.figures.specs.declared.Slot.{Slot}
-use Rattle.figures.proofs.Tables.{rows-same, len-is, len-most, row-kept, verdictOf, verdict-whole, filled, fill-next}
+use Rattle.figures.proofs.Tables.{rows-same, len-is, len-most, row-kept, verdictOf, verdict-whole}
 use Rattle.figures.proofs.table_figures.Statement.{statement}
 use Rattle.figures.proofs.table_figures.Tie as tie
 

@@ -8,7 +8,7 @@ use lib.ListN.{length-append, length, take, set, replicate, length-map, length-s
 use lib.Seq.{set-at, take-all}
 use Rattle.table.specs.Limits.{mostTimes}
 use Rattle.table.specs.Value.{ticks, long}
-use Rattle.kernel.proofs.Laws.{filled-next}
+use Rattle.words.proofs.Filled.{filled-next}
 use Rattle.kernel.proofs.lane_of.Statement.{statement}
 use Rattle.kernel.proofs.lane_of.Tie as tie
 

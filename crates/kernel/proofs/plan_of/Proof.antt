@@ -8,7 +8,7 @@ use lib.ListN.{length, take, replicate, length-map, length-set}
 use Rattle.table.specs.Limits.{mostRows, mostTimes}
 use Rattle.table.specs.Value.{noValue}
 use Rattle.kernel.specs.Tick.{laneOf, planOf}
-use Rattle.kernel.proofs.Laws.{filled-next, filled-all}
+use Rattle.words.proofs.Filled.{filled-next, filled-all}
 use Rattle.kernel.proofs.plan_of.Statement.{statement}
 use Rattle.kernel.proofs.plan_of.Tie as tie
 

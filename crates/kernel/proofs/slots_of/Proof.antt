@@ -5,7 +5,7 @@ use mathlib.Core.Option.{none}
 use Prim.Native.Nat.{ℕ, _-_, _≤_}
 use native.Mathlib.Omega.{arith}
 use borrow.Author.Needs.{needs}
-use lib.ListN.{length, getD, replicate, length-set}
+use lib.ListN.{length, getD, set, replicate, length-set}
 use Rattle.words.specs.Lists.{below}
 use Rattle.ticks.specs.declared.Instant.{Instant}
 use Rattle.table.specs.Limits.{mostRows}
@@ -13,7 +13,7 @@ use Rattle.kernel.specs.declared.Slot.{Slot}
 use Rattle.kernel.specs.Run.{slotOf}
 use Rattle.kernel.specs.Tick.{instant}
 use Rattle.kernel.specs.Noted.{completionOf, slotsOf}
-use Rattle.kernel.proofs.Laws.{counted-next}
+use Rattle.words.proofs.Filled.{fill-next}
 use Rattle.kernel.proofs.slots_of.Statement.{statement}
 use Rattle.kernel.proofs.slots_of.Tie as tie
 
@@ -58,7 +58,7 @@ loop-again c =
     let z = c .before .before .before .before in (
       search needs,
       length-set (l .rows) (l .i) _ ∙ l .inv .1,
-      counted-next (shown (z .args .t2)) (slotOf none) mostRows (l .i) (l .rows) (c .slot-of .result) (omega (arith, z .pre)) (l .inv .2) (c .slot-of .ensures),
+      ap (λ rs. set rs (l .i) (c .slot-of .result)) (l .inv .2) ∙ fill-next (shown (z .args .t2)) (slotOf none) (c .slot-of .result) mostRows (l .i) (omega (arith, z .pre)) (c .slot-of .ensures),
     )
 
 returns : tie.Need-returns Inv-loop μ-loop

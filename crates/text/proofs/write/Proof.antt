@@ -8,10 +8,11 @@ use native.Mathlib.Omega.{arith}
 use lib.ListN.{length, getD}
 use borrow.Author.Needs.{needs}
 use borrow.Author.Tests.{not-true, not-false}
+use Rattle.words.proofs.Put.{Put, put-none, put-part, put-within, put-room}
 use Rattle.table.specs.Value.{noValue, rowOf, tableOf, wellFormed}
 use Rattle.text.specs.declared.Written.the-variants.{Bytes}
 use Rattle.text.specs.Write.{lineText, tableText}
-use Rattle.text.proofs.Writer.{Put, put-none, put-part, put-within, put-room, rowsOf, sound, text-next, text-room, written-bad, written-short, written-whole}
+use Rattle.text.proofs.Writer.{rowsOf, sound, text-next, text-room, written-bad, written-short, written-whole}
 use Rattle.text.proofs.write.Statement.{statement}
 use Rattle.text.proofs.write.Tie as tie
 

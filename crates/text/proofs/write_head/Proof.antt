@@ -4,15 +4,16 @@ use mathlib.Core.List.{List, _∷_, _++_}
 use Prim.Native.Nat.{ℕ, _+_, _≤_}
 use native.Mathlib.Omega.{arith}
 use lib.ListN.{length, length-append}
+use Rattle.words.proofs.Put.{Put, spliced, put-over, put-within, put-fitted}
 use Rattle.words.specs.Buffer.{over}
 use Rattle.words.proofs.Buffer.{copied}
 use Rattle.decimal.specs.Decimal.{digits}
 use Rattle.table.specs.Paper.{Row}
 use Rattle.table.specs.Value.{rowOf}
 use Rattle.table.proofs.Rows.{name-within, name-front}
-use Rattle.text.specs.Split.{tab}
+use Rattle.fields.specs.Fields.{tab}
 use Rattle.text.specs.Parts.{headText}
-use Rattle.text.proofs.Writer.{Put, spliced, put-over, put-part, put-within, put-room, head-parts}
+use Rattle.text.proofs.Writer.{head-parts}
 use borrow.Author.Needs.{needs}
 use Rattle.text.proofs.write_head.Statement.{statement}
 use Rattle.text.proofs.write_head.Tie as tie
@@ -47,7 +48,7 @@ abbrev buf2 : tie.After-slice-known3 → List ℕ
 buf2 c = spliced (buf1 (c .before .before .before .before)) (c .before .before .before .before .before .before .copy .result) (c .before .before .write-number .last .1 .0)
 
 put2 : (c : tie.After-slice-known3) → Put (rowS (c .before .before .before .before .before .before .before .before .before .before .before .before) .name ++ (tab ∷ digits (rowS (c .before .before .before .before .before .before .before .before .before .before .before .before) .period))) (bufS (c .before .before .before .before .before .before .before .before .before .before .before .before)) (buf2 c) (c .before .before .before .before .before .before .copy .result + c .before .before .write-number .result)
-put2 c = put-part _ _ _ (put1 (c .before .before .before .before)) (omega (arith, room (c .before .before .before .before .before .before .before .before .before .before .before .before))) (c .before .before .write-number .ensures)
+put2 c = put-fitted _ _ _ (put1 (c .before .before .before .before)) (omega (arith, room (c .before .before .before .before .before .before .before .before .before .before .before .before))) (c .before .before .write-number .ensures)
 
 two : (s : tie.Start) → length (rowS s .name ++ (tab ∷ digits (rowS s .period))) + length (tab ∷ digits (rowS s .deadline)) ≤ length (bufS s)
 two s = omega (arith, room s, length-append (rowS s .name) (tab ∷ digits (rowS s .period)))
@@ -55,7 +56,7 @@ two s = omega (arith, room s, length-append (rowS s .name) (tab ∷ digits (rowS
 -- and after D
 put3 : (c : tie.After-slice-known4)
     → Put (headText (rowS (c .before .before .before .before .before .before .before .before .before .before .before .before .before .before .before .before))) (bufS (c .before .before .before .before .before .before .before .before .before .before .before .before .before .before .before .before)) (spliced (buf2 (c .before .before .before .before)) (c .before .before .before .before .before .before .before .before .before .before .copy .result + c .before .before .before .before .before .before .write-number .result) (c .before .before .write-number2 .last .1 .0)) (c .before .before .before .before .before .before .before .before .before .before .copy .result + c .before .before .before .before .before .before .write-number .result + c .before .before .write-number2 .result)
-put3 c = rw (head-parts (rowS (c .before .before .before .before .before .before .before .before .before .before .before .before .before .before .before .before))) (put-part _ _ _ (put2 (c .before .before .before .before)) (two (c .before .before .before .before .before .before .before .before .before .before .before .before .before .before .before .before)) (c .before .before .write-number2 .ensures))
+put3 c = rw (head-parts (rowS (c .before .before .before .before .before .before .before .before .before .before .before .before .before .before .before .before))) (put-fitted _ _ _ (put2 (c .before .before .before .before)) (two (c .before .before .before .before .before .before .before .before .before .before .before .before .before .before .before .before)) (c .before .before .write-number2 .ensures))
 
 name-len-requires : tie.Need-name-len-requires
 name-len-requires c κs = search needs
@@ -88,7 +89,7 @@ part-write-number-end : tie.Need-part-write-number-end
 part-write-number-end c = search needs
 
 write-number-requires : tie.Need-write-number-requires
-write-number-requires c κs = put-room _ (put1 (c .before)) (omega (arith, room (c .before .before .before .before .before .before .before .before .before)))
+write-number-requires c κs = search needs
 
 add-at : tie.Need-add-at
 add-at c = omega (arith, put2 c .end, two (c .before .before .before .before .before .before .before .before .before .before .before .before), c .before .before .before .before .before .before .before .before .before .before .before .before .good)
@@ -103,7 +104,7 @@ part-write-number-end-2 : tie.Need-part-write-number-end-2
 part-write-number-end-2 c = search needs
 
 write-number-requires-2 : tie.Need-write-number-requires-2
-write-number-requires-2 c κs = put-room _ (put2 (c .before)) (two (c .before .before .before .before .before .before .before .before .before .before .before .before .before))
+write-number-requires-2 c κs = search needs
 
 add-at-2 : tie.Need-add-at-2
 add-at-2 c = omega (arith, put3 c .end, c .before .before .before .before .before .before .before .before .before .before .before .before .before .before .before .before .pre, c .before .before .before .before .before .before .before .before .before .before .before .before .before .before .before .before .good)

@@ -4,15 +4,16 @@ use mathlib.Core.List.{List, [], _∷_, _++_, map}
 use Prim.Native.Nat.{ℕ, _+_, _≤_, _<_}
 use native.Mathlib.Omega.{arith}
 use lib.ListN.{length, take, set, length-append, length-map}
+use Rattle.words.proofs.Put.{Put, spliced, put-over, put-byte, put-part, put-within, put-room}
 use Rattle.words.proofs.Lists.{take-upTo}
 use Rattle.table.specs.Limits.{mostTimes}
 use Rattle.table.specs.Paper.{Row}
 use Rattle.table.specs.Value.{ticks, rowOf}
 use Rattle.table.proofs.Rows.{times-within}
-use Rattle.text.specs.Split.{lineFeed}
+use Rattle.fields.specs.Fields.{lineFeed}
 use Rattle.text.specs.Write.{numbersText, lineText}
 use Rattle.text.specs.Parts.{headText}
-use Rattle.text.proofs.Writer.{Put, spliced, put-over, put-byte, put-part, put-within, put-room, line-parts}
+use Rattle.text.proofs.Writer.{line-parts}
 use borrow.Author.Needs.{needs}
 use Rattle.text.proofs.write_line.Statement.{statement}
 use Rattle.text.proofs.write_line.Tie as tie

@@ -4,15 +4,16 @@ use mathlib.Core.List.{_∷_, _++_, map}
 use Prim.Native.Nat.{_+_, _-_, _≤_}
 use native.Mathlib.Nat.{le-antisymm}
 use native.Mathlib.Omega.{arith}
-use lib.ListN.{length, take, getD}
+use lib.ListN.{length, take, getD, length-append}
 use borrow.Author.Needs.{needs}
+use Rattle.words.proofs.Put.{Put, put-none, put-within, put-fitted}
 use Rattle.table.specs.Limits.{mostTimes}
 use Rattle.table.specs.Value.{ticks, long}
 use Rattle.table.proofs.Rows.{time-at, times-length}
 use Rattle.decimal.specs.Decimal.{digits}
-use Rattle.text.specs.Split.{tab}
+use Rattle.fields.specs.Fields.{tab}
 use Rattle.text.specs.Write.{numbersText}
-use Rattle.text.proofs.Writer.{Put, put-none, put-part, put-room, put-within, numbers-next, numbers-room}
+use Rattle.text.proofs.Writer.{numbers-next, numbers-room}
 use Rattle.text.proofs.write_times.Statement.{statement}
 use Rattle.text.proofs.write_times.Tie as tie
 
@@ -59,12 +60,13 @@ part-write-number-end : tie.Need-part-write-number-end Inv-loop μ-loop
 part-write-number-end c = search needs
 
 write-number-requires : tie.Need-write-number-requires Inv-loop μ-loop
-write-number-requires c κs =
-    let l = c .before .before .loop in
-    put-room _ (l .inv .1) (turn (c .before) .1)
+write-number-requires c κs = search needs
 
 add-at : tie.Need-add-at Inv-loop μ-loop
-add-at c = omega (arith, turn (c .before .before .before .before) .1, c .before .before .before .before .before .loop .inv .1 .end, c .before .before .write-number .ensures .0, c .before .before .before .before .before .before .before .good)
+add-at c =
+    let t = turn (c .before .before .before .before) in
+    let p = put-fitted _ _ _ (c .before .before .before .before .before .loop .inv .1) (t .1) (c .before .before .write-number .ensures) in
+    omega (arith, t .1, p .end, length-append (numbersText (take (c .before .before .before .before .before .loop .i) (map ticks (c .before .before .before .before .before .before .before .args .t1)))) (tab ∷ digits (getD (c .before .before .before .before .before .before .before .args .t1) (c .before .before .before .before .before .loop .i) (long 0) .0)), c .before .before .before .before .before .before .before .good)
 
 add-i : tie.Need-add-i Inv-loop μ-loop
 add-i c = search needs
@@ -77,7 +79,7 @@ loop-again c =
     let l = c .before .before .before .before .before .loop in
     let t = turn (c .before .before .before .before) in
     let w = c .before .before .write-number in
-    (omega arith, rw (t .0) (put-part _ _ _ (l .inv .1) (t .1) (w .ensures)))
+    (omega arith, rw (t .0) (put-fitted _ _ _ (l .inv .1) (t .1) (w .ensures)))
 
 same-length : tie.Need-same-length Inv-loop μ-loop
 same-length c = c .before .loop .inv .1 .kept

@@ -1,0 +1,53 @@
+-- `main` is safe: the bytes that were read lie within the buffer, as `input::read_whole` says.
+use borrow.Author.Needs.{needs}
+use Rattle.check_table.proofs.main.Statement.{statement}
+use Rattle.check_table.proofs.main.Tie as tie
+
+slice-aggregate-read-whole : tie.Need-slice-aggregate-read-whole
+slice-aggregate-read-whole c = search needs
+
+read-whole-requires : tie.Need-read-whole-requires
+read-whole-requires c κs = search needs
+
+enum-known-len : tie.Need-enum-known-len
+enum-known-len c = search needs
+
+array-share-prefix-text : tie.Need-array-share-prefix-text
+array-share-prefix-text c = c .before .before .before .before .read-whole .ensures _ (c .before .len .given .1) .0
+
+slice-aggregate-put-report : tie.Need-slice-aggregate-put-report
+slice-aggregate-put-report c = c .before .before .before .before .before .read-whole .ensures _ (c .before .before .len .given .1) .1
+
+put-report-requires : tie.Need-put-report-requires
+put-report-requires c κs = search needs
+
+enum-told : tie.Need-enum-told
+enum-told c = search needs
+
+slice-aggregate-write-all : tie.Need-slice-aggregate-write-all
+slice-aggregate-write-all c = search needs
+
+write-all-requires : tie.Need-write-all-requires
+write-all-requires c κs = search needs
+
+returns : tie.Need-returns
+returns c = search needs
+
+returns-2 : tie.Need-returns-2
+returns-2 c = search needs
+
+pub main-spec : {M : Type 1} → statement M
+main-spec =
+    tie.close
+    (tie.spec
+    slice-aggregate-read-whole
+    read-whole-requires
+    enum-known-len
+    array-share-prefix-text
+    slice-aggregate-put-report
+    put-report-requires
+    enum-told
+    slice-aggregate-write-all
+    write-all-requires
+    returns
+    returns-2)

@@ -1,0 +1,22 @@
+-- The parts of an answer, as the code has them. proofs/Runs shows that together they are `instants`.
+use mathlib.Core.List.{List, map}
+use Prim.Native.Nat.{ℕ}
+use lib.ListN.{getD}
+use Rattle.words.specs.Lists.{below}
+use Rattle.ticks.specs.Ticks.{most}
+use Rattle.kernel.specs.declared.First.{First}
+use Rattle.kernel.specs.declared.First.the-variants.{At, Not}
+use Rattle.kernel.specs.declared.Slot.{Slot}
+
+-- a completion, as a number
+abbrev pub firstNumber : First → ℕ
+firstNumber (At i) = i .0
+firstNumber Not = most
+
+-- what is said to stand behind an array's end, where nothing does
+abbrev pub noSlot : Slot
+noSlot = record { first = At (record { 0 = 0 }) }
+
+-- the numbers of the first n rows
+abbrev pub numbersOf : List Slot → ℕ → List ℕ
+numbersOf slots n = map (λ k. firstNumber (getD slots k noSlot .first)) (below n)

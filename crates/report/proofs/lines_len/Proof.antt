@@ -1,0 +1,86 @@
+-- `lines_len` meets its contract: after each turn the lines so far are measured.
+use mathlib.Core.Path.{_≡_, refl, ap, _∙_}
+use mathlib.Core.List.{map}
+use Prim.Native.Nat.{_-_, _≤_}
+use native.Mathlib.Omega.{arith}
+use native.Mathlib.Nat.{le-antisymm}
+use lib.ListN.{length, length-append}
+use Rattle.words.specs.Lists.{below}
+use Rattle.fields.specs.Fields.{joined}
+use Rattle.fields.proofs.Lines.{joined-next, joined-room}
+use Rattle.report.specs.Report.{longestReport}
+use Rattle.report.specs.Parts.{lineAt, linesText}
+use Rattle.report.proofs.lines_len.Statement.{statement}
+use Rattle.report.proofs.lines_len.Tie as tie
+
+abbrev Inv-loop : tie.InvT-loop
+Inv-loop rows slots n len₀ i₀ len i = (i ≤ n) × (len ≡ length (linesText rows slots i))
+
+abbrev μ-loop : tie.MeasureT-loop
+μ-loop rows slots n len₀ i₀ len i = n - i
+
+loop-holds : tie.Need-loop-holds Inv-loop μ-loop
+unfolding joined below
+loop-holds c = (omega arith, refl)
+
+mul-row : tie.Need-mul-row Inv-loop μ-loop
+mul-row c = omega (arith, c .before .before .before .before .pre .0, c .loop-test .taken)
+
+array-copy-out-row : tie.Need-array-copy-out-row Inv-loop μ-loop
+array-copy-out-row c = omega (arith, c .before .before .before .before .pre .0, c .loop-test .taken)
+
+mul-slot : tie.Need-mul-slot Inv-loop μ-loop
+mul-slot c = omega (arith, c .before .before .before .before .before .pre .0, c .before .loop-test .taken)
+
+array-copy-out-slot : tie.Need-array-copy-out-slot Inv-loop μ-loop
+array-copy-out-slot c = omega (arith, c .before .before .before .before .before .pre .0, c .before .loop-test .taken)
+
+answer-len-requires : tie.Need-answer-len-requires Inv-loop μ-loop
+answer-len-requires c κs =
+    let s = c .before .before .before .before .before .before in
+    let at = lineAt (s .args .table .rows) (s .args .figures .rows) in
+    let h : length (at (c .before .before .before .loop .i)) ≤ longestReport = omega (arith, s .pre .1, joined-room at (s .args .table .len) (c .before .before .before .loop .i) (c .before .before .loop-test .taken)) in
+    h
+
+add-len : tie.Need-add-len Inv-loop μ-loop
+add-len c =
+    let s = c .before .before .before .before .before .before .before in
+    let l = c .before .before .before .before .loop in
+    omega (arith, s .pre .1, l .inv .1, c .answer-len .ensures, joined-room (lineAt (s .args .table .rows) (s .args .figures .rows)) (s .args .table .len) (l .i) (c .before .before .before .loop-test .taken))
+
+add-i : tie.Need-add-i Inv-loop μ-loop
+add-i c = omega (arith, c .before .before .before .before .before .before .before .pre .0, c .before .before .before .loop-test .taken)
+
+loop-less : tie.Need-loop-less Inv-loop μ-loop
+loop-less c = omega (arith, c .before .before .before .loop-test .taken)
+
+loop-again : tie.Need-loop-again Inv-loop μ-loop
+loop-again c =
+    let s = c .before .before .before .before .before .before .before in
+    let l = c .before .before .before .before .loop in
+    let at = lineAt (s .args .table .rows) (s .args .figures .rows) in
+    (omega (arith, c .before .before .before .loop-test .taken), omega (arith, l .inv .1, c .answer-len .ensures, ap length (joined-next at (l .i)) ∙ length-append (joined (map at (below (l .i)))) (at (l .i))))
+
+returns : tie.Need-returns Inv-loop μ-loop
+returns c =
+    let l = c .before .loop in
+    let s = c .before .before .before .before in
+    l .inv .1 ∙ ap (λ k. length (linesText (s .args .table .rows) (s .args .figures .rows) k)) (le-antisymm (l .inv .0) (c .loop-test .left))
+
+pub lines-len-spec : {M : Type 1} → statement M
+lines-len-spec =
+    tie.close
+    (tie.spec
+    Inv-loop
+    μ-loop
+    loop-holds
+    mul-row
+    array-copy-out-row
+    mul-slot
+    array-copy-out-slot
+    answer-len-requires
+    add-len
+    add-i
+    loop-less
+    loop-again
+    returns)

@@ -1,0 +1,72 @@
+/*
+ * Musselpath for C: the report of a table text, and its full run.
+ *
+ * Link libmusselpath.a (`rt staticlib musselpath` proves it and writes it to target/staticlib/). It links into x86-64 programs.
+ *
+ * What holds of both functions:
+ *
+ * - Any bytes may be handed in as a text. A bad one is refused by a fixed number; nothing has to be tested beforehand.
+ * - A pointer has to point to as many elements as the length beside it says, and must not be null, also where that length is 0.
+ *   The lent buffer `out` must not overlap the text. This is all that a caller has to see to.
+ * - The text is only read. Of `out` the answer alone is written: what lies beyond it is unchanged, and where nothing is answered
+ *   all of it is unchanged. No other memory is touched.
+ * - Every call returns. It takes no heap, calls nothing of an operating system, keeps nothing from one call to the next, and may
+ *   be made from several threads at once. All that it works with lies on the stack; boundary/stack prints how much that is.
+ * - The same input always gives the same answer.
+ *
+ * How long a call takes depends on the table. A report takes one round or more for each row, and within the limits of a table
+ * there are some with over three million rounds in all; a full run takes every tick that it is asked for.
+ */
+#ifndef MUSSELPATH_H
+#define MUSSELPATH_H
+
+#include <stdint.h>
+
+#ifdef __cplusplus
+extern "C" {
+#endif
+
+/* The most rows of a table, and the least length of a buffer for musselpath_full_run. */
+#define MUSSELPATH_ROWS 16
+
+/* The most bytes of a table text. A longer text is refused by 2, however long it is. */
+#define MUSSELPATH_TEXT 1360
+
+/* A buffer of so many bytes has room for every report and every refused line. */
+#define MUSSELPATH_REPORT 845
+
+/* Stands for the completion instant of a row whose first job is not complete. */
+#define MUSSELPATH_NOT_COMPLETE UINT64_MAX
+
+/*
+ * Writes the report of a table text to the front of `out` and answers how many bytes it has.
+ *
+ * The report has one line a row: name, verdict (fits, misses or open), figure, whole, split and rounds, parted by one tab and
+ * ended by one line feed; a missing figure is a hyphen. Its last line is "table", a tab and the verdict of the table. For a
+ * refused text there is one line instead: "refused", number, line and field. A row may be named table or refused: tell the
+ * lines apart by their fields, of which a row has 6, the last line 2 and the refused line 4. There is no zero byte at the end.
+ *
+ * Where `out` is too short for the whole of it, the answer is 0 and `out` is unchanged. No report has 0 bytes, and none has more
+ * than MUSSELPATH_REPORT.
+ */
+uint64_t musselpath_report(const uint8_t *text, uint64_t text_len, uint8_t *out, uint64_t out_len);
+
+/*
+ * Carries out the full run of a table text: all rows released at 0 and every T, full times, for so many ticks.
+ *
+ * Answers 0, and then `out` holds, for each row in the order of the text, the completion instant of its first job, or
+ * MUSSELPATH_NOT_COMPLETE. `out_len` counts elements, not bytes. Elements beyond the last row are unchanged.
+ *
+ * Otherwise answers the number of the refusal, and `out` is unchanged. The first that applies is given:
+ *
+ *    1 to 11  the text is bad; musselpath_report of the same text has the line and the field
+ *    23       more than 1,000,000 ticks
+ *    22       `out` has fewer than MUSSELPATH_ROWS elements, however many rows the table has
+ */
+uint32_t musselpath_full_run(const uint8_t *text, uint64_t text_len, uint64_t ticks, uint64_t *out, uint64_t out_len);
+
+#ifdef __cplusplus
+}
+#endif
+
+#endif
