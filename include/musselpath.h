@@ -11,7 +11,8 @@
  * - The text is only read. Of `out` the answer alone is written: what lies beyond it is unchanged, and where nothing is answered
  *   all of it is unchanged. No other memory is touched.
  * - Every call returns. It takes no heap, calls nothing of an operating system, keeps nothing from one call to the next, and may
- *   be made from several threads at once. All that it works with lies on the stack; boundary/stack prints how much that is.
+ *   be made from several threads at once. Of a C library it needs memcpy alone. All that it works with lies on the stack;
+ *   boundary/stack.c measures how much that is, and docs/SPEED.md has the figures.
  * - The same input always gives the same answer.
  *
  * How long a call takes depends on the table. A report takes one round or more for each row, and within the limits of a table

@@ -10,17 +10,18 @@ use lib.Dec.{leb}
 use lib.ListN.{length, getD}
 use borrow.Author.Tests.{ltb-true, lt-ltb, le-leb}
 use Rattle.words.specs.Choice.{if_then_else_}
-use Rattle.words.specs.Buffer.{placed}
+use Rattle.words.specs.Buffer.{over, placed}
+use Rattle.words.proofs.Buffer.{placed-fits}
 use Rattle.words.proofs.Choice.{if-true, if-false, and-parts, and-both}
 use Rattle.table.specs.Limits.{mostTicks}
 use Rattle.table.specs.Paper.{Row, rowAt, waits, rightTable}
 use Rattle.table.specs.Value.{tableOf, wellFormed}
 use Rattle.table.specs.declared.Table.{Table as TableValue}
 use Rattle.table.proofs.Rules.{value-forth, value-back, value-right, table-right}
-use Rattle.refusals.specs.declared.Refusal.the-variants.{NoRoom}
+use Rattle.refusals.specs.declared.Refusal.the-variants.{BadTable, NoRoom}
 use Rattle.text.specs.declared.Written.the-variants.{Bytes, Refused as NotWritten}
 use Rattle.text.specs.Read.{readingOf}
-use Rattle.text.specs.Write.{tableText, written, writtenInto}
+use Rattle.text.specs.Write.{tableText, lengthIn, written, writtenInto}
 use Rattle.text.proofs.Back.{text-back, text-right, text-one}
 use Rattle.text.proofs.Forth.{text-forth}
 use Rattle.text.proofs.Fits.{text-fits}
@@ -31,16 +32,19 @@ use Rattle.figures.specs.declared.Verdict.the-variants.{Fits}
 use Rattle.kernel.specs.declared.First.the-variants.{At}
 use Rattle.figures.specs.declared.RowFigures.{RowFigures}
 use Rattle.figures.specs.Figures.{verdict}
-use Rattle.figures.specs.Answers.{rowAnswer, figuresOf}
+use Rattle.figures.specs.Answers.{rowAnswer, figuresOf, tableFigures}
+use Rattle.figures.specs.declared.TableFigures.{TableFigures}
+use Rattle.report.specs.Report.{reportText, answerTo, answerText, reported, reportedInto}
+use Rattle.report.proofs.Fits.{answer-fits}
 use Rattle.figures.specs.declared.Answer.the-variants.{Row as RowIs}
 use Rattle.figures.proofs.Verdicts.{one-fits, one-misses, one-whole, waiting-whole, waiting-split, waiting-open, waiting-misses}
 use Rattle.words.proofs.Filled.{filled-at}
 use Rattle.kernel.specs.declared.FullRun.{FullRun}
 use Rattle.kernel.specs.declared.Slot.{Slot}
 use Rattle.kernel.specs.Rules.{Job, job, after, full, Complete}
-use Rattle.kernel.specs.Run.{firstDone, orElse, completion, slotOf, completions}
+use Rattle.kernel.specs.Run.{firstDone, orElse, completion, slotOf, completions, fullRun}
 use Rattle.kernel.proofs.Completions.{run-there}
-use Rattle.promises.specs.Demands.{RefusedText, RefusedTable, ShortBuffer, TextBack, OneText, TableBack, Asked, OneStretch, WaitingRow, InTime, FullRunLegal, Exact, Missed, completed}
+use Rattle.promises.specs.Demands.{RefusedText, RefusedTable, ShortBuffer, TextBack, Answered, OneText, TableBack, Asked, OneStretch, WaitingRow, InTime, FullRunLegal, Exact, Missed, completed}
 use Rattle.promises.proofs.Fits.{rules, fits-deadline, fits-in-time}
 use Rattle.promises.proofs.Exact.{full-legal, exact-before, exact-from, exact-misses}
 
@@ -50,21 +54,32 @@ pub demand-1-text : RefusedText
 demand-1-text s why e = ap (λ a. readingOf a .table) e
 
 pub demand-1-table : RefusedTable
-unfolding written writtenInto rowAnswer
-demand-1-table v e = ((λ d. (if-false _ _ e, if-false _ _ e)), λ n. if-false _ _ e)
+unfolding written writtenInto reported reportedInto rowAnswer tableFigures fullRun
+demand-1-table v e = (
+  (λ d. (if-false _ _ e, if-false _ _ e, if-false _ _ e, if-false _ _ e)),
+  (λ n. (if-false _ _ e, if-false _ _ e)),
+  ap (λ (f : TableFigures). f .verdict) (if-false _ _ e),
+)
+
+-- where there is no room for bytes that were to be put into a buffer, it stays as it was
+room-missing : (bs d : List ℕ) (b : Bool) → (if b then lengthIn bs d else NotWritten BadTable) ≡ NotWritten NoRoom → (if b then placed bs d else d) ≡ d
+unfolding placed
+room-missing bs d false e = refl
+room-missing bs d true e = go (leb (length bs) (length d)) e
+  where
+    go : (c : Bool) → (if c then Bytes (length bs) else NotWritten NoRoom) ≡ NotWritten NoRoom → (if c then over bs d else d) ≡ d
+    go true p = absurd (let y : _≡_ {A = ℕ} 0 1 = cc in omega arith)
+    go false p = refl
 
 pub demand-1-buffer : ShortBuffer
-unfolding written writtenInto placed
-demand-1-buffer v d e = go (wellFormed v) refl (leb (length (tableText (tableOf v))) (length d)) refl e
-  where
-    go : (b : Bool) → wellFormed v ≡ b → (c : Bool) → leb (length (tableText (tableOf v))) (length d) ≡ c → written v d ≡ NotWritten NoRoom → writtenInto v d ≡ d
-    go false p c q e = if-false _ _ p
-    go true p false q e = if-true _ _ p ∙ if-false _ _ q
-    go true p true q e =
-        let z : Bytes (length (tableText (tableOf v))) ≡ NotWritten NoRoom = sym (if-true _ _ p ∙ if-true _ _ q) ∙ e in
-        absurd (let y : _≡_ {A = ℕ} 0 1 = cc in omega arith)
+unfolding written writtenInto reported reportedInto
+demand-1-buffer v d = (room-missing (tableText (tableOf v)) d (wellFormed v), room-missing (reportText (tableOf v)) d (wellFormed v))
 
 -- 2
+
+pub demand-2-answer : Answered
+unfolding answerText
+demand-2-answer s = ((λ t e. ap answerTo e), (λ why e. ap answerTo e), (λ d h. placed-fits (answerText s) d (omega (arith, answer-fits s))))
 
 pub demand-2-one : OneText
 demand-2-one s r t p q = text-one s r t p q

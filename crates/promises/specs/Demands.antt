@@ -1,5 +1,6 @@
 -- THE THREE DEMANDS, about the meanings of the public functions, for every input. proofs/Demands shows each of them.
--- read is `readText`, write is `written` and `writtenInto`, row_figures is `rowAnswer`, full_run is `fullRun`: the contracts say so.
+-- text::read is `readText`, text::write is `written` and `writtenInto`, figures::row_figures is `rowAnswer`, figures::table_figures is
+-- `tableFigures`, report::write is `reported` and `reportedInto`, report::answer is `answerText`, kernel::full_run is `fullRun`: the contracts say so.
 use mathlib.Core.Path.{_≡_}
 use mathlib.Core.Bool.{true, false}
 use mathlib.Core.List.{List}
@@ -9,7 +10,7 @@ use Prim.Native.Nat.{ℕ, _+_, _≤_, _<_}
 use lib.ListN.{length, getD}
 use Rattle.ticks.specs.declared.Length.{Length}
 use Rattle.ticks.specs.declared.Instant.{Instant}
-use Rattle.words.specs.Buffer.{placed}
+use Rattle.words.specs.Buffer.{over, placed}
 use Rattle.refusals.specs.declared.Refusal.{Refusal}
 use Rattle.refusals.specs.declared.Refusal.the-variants.{BadTable, NoRoom}
 use Rattle.table.specs.Limits.{longestText, mostTicks}
@@ -25,11 +26,13 @@ use Rattle.figures.specs.declared.RowFigures.{RowFigures}
 use Rattle.figures.specs.declared.Verdict.the-variants.{Fits, Misses, Open}
 use Rattle.figures.specs.declared.Answer.the-variants.{Row as RowIs, Refused as NoFigures}
 use Rattle.figures.specs.Figures.{right, own, whole, split}
-use Rattle.figures.specs.Answers.{rowAnswer}
+use Rattle.figures.specs.declared.TableVerdict.the-variants.{Refused as NoVerdict}
+use Rattle.figures.specs.Answers.{rowAnswer, tableFigures}
+use Rattle.report.specs.Report.{reportText, refusedLine, answerText, reported, reportedInto, longestReport}
 use Rattle.kernel.specs.declared.First.{First}
 use Rattle.kernel.specs.declared.First.the-variants.{At, Not}
 use Rattle.kernel.specs.Rules.{Input, LegalRun, after, full, Complete}
-use Rattle.kernel.specs.Run.{slotOf, fullRun}
+use Rattle.kernel.specs.Run.{slotOf, refusedRun, fullRun}
 
 -- ---- 1: a bad text or table is refused, gives an empty table or no figures, and no lent byte changes
 
@@ -40,13 +43,16 @@ RefusedText = (s : List ℕ) (why : Refusal) → readText s ≡ refused why → 
 -- a bad table value is refused by all, whatever else is asked, and the buffer stays as it was
 abbrev pub RefusedTable : Type 0
 RefusedTable = (v : TableValue) → wellFormed v ≡ false
-    → ((d : List ℕ) → (written v d ≡ NotWritten BadTable) × (writtenInto v d ≡ d)) × ((n : ℕ) → rowAnswer v n ≡ NoFigures BadTable)
+    → ((d : List ℕ) → (written v d ≡ NotWritten BadTable) × (writtenInto v d ≡ d) × (reported v d ≡ NotWritten BadTable) × (reportedInto v d ≡ d))
+    × ((n : ℕ) → (rowAnswer v n ≡ NoFigures BadTable) × (fullRun v n ≡ refusedRun BadTable))
+    × (tableFigures v .verdict ≡ NoVerdict BadTable)
 
 -- a buffer that is too short stays as it was
 abbrev pub ShortBuffer : Type 0
-ShortBuffer = (v : TableValue) (d : List ℕ) → written v d ≡ NotWritten NoRoom → writtenInto v d ≡ d
+ShortBuffer = (v : TableValue) (d : List ℕ)
+    → (written v d ≡ NotWritten NoRoom → writtenInto v d ≡ d) × (reported v d ≡ NotWritten NoRoom → reportedInto v d ≡ d)
 
--- ---- 2: texts read and write back; figures are the published recurrence's
+-- ---- 2: texts read, write back and are answered; figures are the published recurrence's
 
 -- an accepted text writes back byte for byte
 abbrev pub TextBack : Type 0
@@ -60,6 +66,13 @@ OneText = (s r : List ℕ) (t : Table) → readText s ≡ accepted t → readTex
 abbrev pub TableBack : Type 0
 TableBack = (v : TableValue) → wellFormed v ≡ true
     → (readingOf (readText (tableText (tableOf v))) .table ≡ v) × (length (tableText (tableOf v)) ≤ longestText)
+
+-- the answer to a text is the report of its table or the line of its refusal, and a buffer for the longest has room for it
+abbrev pub Answered : Type 0
+Answered = (s : List ℕ)
+    → ((t : Table) → readText s ≡ accepted t → answerText s ≡ reportText t)
+    × ((why : Refusal) → readText s ≡ refused why → answerText s ≡ refusedLine why)
+    × ((d : List ℕ) → longestReport ≤ length d → placed (answerText s) d ≡ over (answerText s) d)
 
 -- the smallest positive fixed point of f
 pub record Smallest (f : ℕ → ℕ) (R : ℕ) : Type 0 where
