@@ -34,9 +34,10 @@ abbrev pub leftFor : Answer → ℕ → List ℕ → List ℕ
 leftFor (refused why) n d = d
 leftFor (accepted t) n d = if ltb mostTicks n then d else if ltb (length d) mostRows then d else over (instants t n) d
 
--- the same, for a text
+-- what is answered for a text
 unfoldable pub runNumber : List ℕ → ℕ → List ℕ → ℕ
 runNumber s n d = numberFor (readText s) n d
 
+-- what is left in the buffer for a text
 unfoldable pub runLeft : List ℕ → ℕ → List ℕ → List ℕ
 runLeft s n d = leftFor (readText s) n d

@@ -1,4 +1,4 @@
--- The parts of a report, as the code writes them. proofs/Lines shows that together they are `reportText`.
+-- The parts of a report, as the code writes them. proofs/Lines and proofs/Tables show that together they are `reportText`.
 use mathlib.Core.List.{List, [], _∷_, _++_, map}
 use Prim.Native.Nat.{ℕ}
 use lib.ListN.{getD}
