@@ -1,7 +1,7 @@
 -- Fields put into a line one after the other, and lines into a text.
 use mathlib.Core.Path.{_≡_, refl, sym, ap, _∙_}
 use mathlib.Core.List.{List, [], _∷_, _++_, map, append-assoc, append-nil}
-use Prim.Native.Nat.{ℕ, zero, suc, _+_, _-_, _≤_, _<_}
+use Prim.Native.Nat.{ℕ, zero, suc, _+_, _-_, _*_, _≤_, _<_}
 use native.Mathlib.Omega.{arith}
 use native.Mathlib.Numerals.{add-one}
 use lib.ListN.{length, take, drop, length-append}
@@ -96,3 +96,11 @@ module _ (lineAt : ℕ → List ℕ) where
   joined-room n i h =
       let e : (n - (i + 1)) + (i + 1) ≡ n = omega arith in
       omega (arith, joined-grows i, joined-front (i + 1) (n - (i + 1)), ap size e)
+
+-- n lines of at most m bytes each have n times m bytes at most
+pub lines-length : (f : ℕ → List ℕ) (m n : ℕ) → ((k : ℕ) → k < n → length (f k) ≤ m) → length (joined (map f (below n))) ≤ n * m
+unfolding joined below
+lines-length f m zero h = omega arith
+lines-length f m (suc n) h =
+    let e : joined (map f (below (suc n))) ≡ joined (map f (below n)) ++ f n = ap (λ k. joined (map f (below k))) (sym (add-one n)) ∙ joined-next f n in
+    omega (arith, ap length e, length-append (joined (map f (below n))) (f n), h n (omega arith), lines-length f m n (λ k lt. h k (omega arith)))

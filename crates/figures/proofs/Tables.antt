@@ -2,20 +2,16 @@
 use mathlib.Core.Path.{_≡_, refl, sym, ap, _∙_}
 use mathlib.Core.Bool.{Bool, true, false, false≢true}
 use mathlib.Core.List.{List, [], _∷_, _++_, map}
-use Prim.Native.Nat.{ℕ, zero, suc, _-_, _≤_, _<_}
-use native.Mathlib.Omega.{arith}
-use lib.ListN.{length, getD, replicate}
+use Prim.Native.Nat.{ℕ, zero, suc, _<_}
+use lib.ListN.{length, getD}
 use Rattle.words.specs.Choice.{if_then_else_, _and_, _or_}
-use Rattle.words.specs.Lists.{all, any, upTo, below}
+use Rattle.words.specs.Lists.{all, any, below}
 use Rattle.words.proofs.Choice.{and-parts, or-nothing}
-use Rattle.words.proofs.Lists.{all-each}
 use Rattle.words.proofs.Filled.{map-below}
-use Rattle.table.specs.Limits.{mostRows}
 use Rattle.table.specs.Paper.{Row, Table, rowAt, rightRow}
-use Rattle.table.specs.Value.{noValue, rowOf, rowValue, emptyRow, tableOf, tableValue, wellFormed}
-use Rattle.table.specs.declared.Row.{Row as RowValue}
+use Rattle.table.specs.Value.{noValue, rowValue, tableOf, wellFormed}
 use Rattle.table.specs.declared.Table.{Table as TableValue}
-use Rattle.table.proofs.Rules.{row-back, value-forth, table-right, table-size}
+use Rattle.table.proofs.Used.{row-is, value-is, row-right}
 use Rattle.figures.specs.declared.Verdict.{Verdict}
 use Rattle.figures.specs.declared.Verdict.the-variants.{Fits, Misses, Open}
 use Rattle.figures.specs.declared.TableVerdict.{TableVerdict}
@@ -24,50 +20,14 @@ use Rattle.figures.specs.Figures.{verdict}
 use Rattle.figures.specs.Answers.{fits, misses, verdicts, tableVerdict, joinedOf}
 use Rattle.figures.specs.Work.{rowsOf, Kept}
 
--- the rows of a value, in use or not, stand for the rows on paper
-row-there : (t : Table) (m : ℕ) → all rightRow t ≡ true → (i : ℕ) → rowOf (getD (map rowValue t ++ replicate m emptyRow) i noValue) ≡ rowAt t i
-unfolding upTo all
-row-there [] zero e i = refl
-row-there [] (suc m) e zero = refl
-row-there [] (suc m) e (suc i) = row-there [] m e i
-row-there (r ∷ t) m e zero = row-back r (and-parts e .0)
-row-there (r ∷ t) m e (suc i) = row-there t m (and-parts e .1) i
-
-value-there : (t : Table) (m i : ℕ) → i < length t → getD (map rowValue t ++ replicate m emptyRow) i noValue ≡ rowValue (rowAt t i)
-value-there [] m i h = absurd (omega arith)
-value-there (r ∷ t) m zero h = refl
-value-there (r ∷ t) m (suc i) h = value-there t m i (omega arith)
-
 module _ (v : TableValue) (ok : wellFormed v ≡ true) where
-  there : v .rows ≡ map rowValue (tableOf v) ++ replicate (mostRows - length (tableOf v)) emptyRow
-  unfolding tableValue
-  there = ap (λ (w : TableValue). w .rows) (value-forth v ok .0)
-
   -- the rows that the values stand for are those of the table on paper
   pub rows-same : rowsOf (v .rows) ≡ rowAt (tableOf v)
-  rows-same =
-      λ j i. (ap (λ (l : List RowValue). rowOf (getD l i noValue)) there
-      ∙ row-there (tableOf v) (mostRows - length (tableOf v)) (table-right (tableOf v) (value-forth v ok .1)) i) j
-
-  -- the count is right
-  pub len-is : v .len ≡ length (tableOf v)
-  unfolding tableValue
-  len-is = ap (λ (w : TableValue). w .len) (value-forth v ok .0)
-
-  pub len-most : v .len ≤ mostRows
-  len-most = omega (arith, len-is, table-size (tableOf v) (value-forth v ok .1) .1)
+  rows-same = λ j i. row-is v ok i j
 
   -- each row in use is kept
   pub row-kept : (i : ℕ) → i < v .len → Kept (getD (v .rows) i noValue)
-  row-kept i h =
-      let l : i < length (tableOf v) = omega (arith, len-is) in
-      let e : getD (v .rows) i noValue ≡ rowValue (rowAt (tableOf v) i)
-      = ap (λ (l : List RowValue). getD l i noValue) there ∙ value-there (tableOf v) (mostRows - length (tableOf v)) i l in
-      let p : rowOf (getD (v .rows) i noValue) ≡ rowAt (tableOf v) i = λ j. rows-same j i in
-      record {
-        value = e ∙ ap rowValue (sym p);
-        right = ap rightRow p ∙ all-each rightRow (tableOf v) (table-right (tableOf v) (value-forth v ok .1)) i _ l;
-      }
+  row-kept i h = record { value = value-is v ok i h ∙ ap rowValue (sym (row-is v ok i)); right = ap rightRow (row-is v ok i) ∙ row-right v ok i h }
 
 -- the table's verdict after the first n rows
 abbrev pub verdictOf : (ℕ → Row) → ℕ → TableVerdict

@@ -20,6 +20,7 @@ use Rattle.table.specs.Limits.{mostRows, mostTicks}
 use Rattle.table.specs.Paper.{Table, rowAt, Row}
 use Rattle.table.specs.Value.{tableOf, wellFormed}
 use Rattle.table.specs.declared.Table.{Table as TableValue}
+use Rattle.table.proofs.Used.{len-is, len-most}
 use Rattle.kernel.specs.declared.Outcome.the-variants.{Ran}
 use Rattle.kernel.specs.declared.Cell.{Cell}
 use Rattle.kernel.specs.declared.Machine.{Machine}
@@ -29,7 +30,7 @@ use Rattle.kernel.specs.Tick.{instant, planOf, cellOf, cellAt, runs, tic
 use Rattle.kernel.specs.Noted.{slotsOf, notedOf, completionOf, noteOf, firstsAfter, firstAt}
 use Rattle.kernel.specs.Queue.{queueOf, fullJobs, jobsOf, releasedOf}
 use Rattle.words.proofs.Filled.{below-same}
-use Rattle.kernel.proofs.Plan.{len-is, len-most, planned}
+use Rattle.kernel.proofs.Plan.{planned}
 use Rattle.kernel.proofs.Link.{other-cell, run-now, cells-enough, mirrors}
 
 -- the queue that a cell stands for

@@ -15,6 +15,7 @@ use Rattle.ticks.specs.declared.Instant.{Instant}
 use Rattle.table.specs.Paper.{Table, rowAt}
 use Rattle.table.specs.Value.{tableOf, wellFormed}
 use Rattle.table.specs.declared.Table.{Table as TableValue}
+use Rattle.table.proofs.Used.{rows-length, len-most}
 use Rattle.kernel.specs.declared.Cell.{Cell}
 use Rattle.kernel.specs.declared.Machine.{Machine}
 use Rattle.kernel.specs.Rules.{Job, State, serve, ready, arrive, free, step, after, full}
@@ -22,7 +23,7 @@ use Rattle.kernel.specs.Tick.{laneOf, planOf, cellOf, servedOf, highest,
 use Rattle.kernel.specs.Queue.{queueOf}
 use Rattle.kernel.proofs.Laws.{noCell}
 use Rattle.kernel.proofs.Mirror.{Planned, Mirror, Arrived, arrives, ready-is, stays, goes-on, begins, queue-is}
-use Rattle.kernel.proofs.Plan.{rows-length, len-most, planned}
+use Rattle.kernel.proofs.Plan.{planned}
 
 -- the row that runs
 

@@ -6,16 +6,17 @@ use Prim.Native.Nat.{ℕ, zero, suc, _+_, _-_, _%_, _≤_, _<_}
 use native.Mathlib.Omega.{arith}
 use native.Mathlib.Decide.{decLe}
 use borrow.Author.Tests.{eqb-true}
-use lib.ListN.{length, getD, replicate, length-map, length-append, length-replicate, List·getD-map, List·getD-append, List·getD-eq-default}
+use lib.ListN.{length, getD, replicate, length-map, List·getD-map, List·getD-append, List·getD-eq-default}
 use lib.Seq.{getD-append-add}
 use Rattle.words.specs.Lists.{padded}
 use Rattle.words.proofs.Choice.{and-parts}
 use Rattle.words.proofs.Lists.{all-each, length-padded}
 use Rattle.table.specs.Limits.{mostRows, mostTimes}
 use Rattle.table.specs.Paper.{Row, rowAt, rightNumber, rightCount, rightRow}
-use Rattle.table.specs.Value.{ticks, long, tableOf, rowValue, emptyRow, tableValue, wellFormed}
+use Rattle.table.specs.Value.{noValue, ticks, long, tableOf, rowValue, wellFormed}
 use Rattle.table.specs.declared.Table.{Table as TableValue}
-use Rattle.table.proofs.Rules.{value-forth, table-size, table-right, row-period, row-count, row-times, number-range, count-most}
+use Rattle.table.proofs.Used.{len-most, rows-length, value-is, row-right}
+use Rattle.table.proofs.Rules.{row-period, row-count, row-times, number-range, count-most}
 use Rattle.kernel.specs.Tick.{laneOf, planOf, timeAt, periodOf}
 use Rattle.kernel.proofs.Mirror.{Planned}
 
@@ -93,41 +94,16 @@ module _ (r : Row) (right : rightRow r ≡ true) where
       }
 
 module _ (v : TableValue) (ok : wellFormed v ≡ true) where
-  rows-are : v .rows ≡ map rowValue (tableOf v) ++ replicate (mostRows - length (tableOf v)) emptyRow
-  unfolding tableValue
-  rows-are = ap (λ (w : TableValue). w .rows) (value-forth v ok .0)
-
-  pub len-is : v .len ≡ length (tableOf v)
-  unfolding tableValue
-  len-is = ap (λ (w : TableValue). w .len) (value-forth v ok .0)
-
-  pub len-most : v .len ≤ mostRows
-  len-most = omega (arith, len-is, table-size (tableOf v) (value-forth v ok .1) .1)
-
-  -- 16 rows, used or not
-  pub rows-length : length (v .rows) ≡ mostRows
-  rows-length =
-      let a : length (map rowValue (tableOf v)) ≡ length (tableOf v) = length-map (tableOf v) rowValue in
-      let b : length (replicate (mostRows - length (tableOf v)) emptyRow) ≡ mostRows - length (tableOf v) = length-replicate (mostRows - length (tableOf v)) emptyRow in
-      ap length rows-are ∙ length-append (map rowValue (tableOf v)) (replicate (mostRows - length (tableOf v)) emptyRow) ∙ omega (arith, len-is, len-most)
-
   pub plan-length : length (planOf v) ≡ mostRows
   unfolding planOf
-  plan-length = length-map (v .rows) laneOf ∙ rows-length
+  plan-length = length-map (v .rows) laneOf ∙ rows-length v ok
 
   lane-at : (k : ℕ) → k < v .len → getD (planOf v) k [] ≡ laneOf (rowValue (rowAt (tableOf v) k))
   unfolding planOf
   lane-at k h =
-      let t = tableOf v in
-      let d = rowValue (rowAt [] 0) in
-      let l : k < length (map rowValue t) = omega (arith, len-is, length-map t rowValue) in
-      same-within (map laneOf (v .rows)) k [] (laneOf d) (omega (arith, plan-length, len-most))
-      ∙ List·getD-map laneOf (v .rows) k d
-      ∙ ap (λ rows. laneOf (getD rows k d)) rows-are
-      ∙ ap laneOf (List·getD-append (map rowValue t) (replicate (mostRows - length t) emptyRow) d k l ∙ List·getD-map rowValue t k (rowAt [] 0))
-
-  pub row-right : (k : ℕ) → k < v .len → rightRow (rowAt (tableOf v) k) ≡ true
-  row-right k h = all-each rightRow (tableOf v) (table-right (tableOf v) (value-forth v ok .1)) k (rowAt [] 0) (omega (arith, len-is))
+      same-within (map laneOf (v .rows)) k [] (laneOf noValue) (omega (arith, plan-length, len-most v ok))
+      ∙ List·getD-map laneOf (v .rows) k noValue
+      ∙ ap laneOf (value-is v ok k h)
 
   pub planned : (k : ℕ) → k < v .len → Planned (rowAt (tableOf v) k) (getD (planOf v) k [])
-  planned k h = rw (lane-at k h) (lane-planned (rowAt (tableOf v) k) (row-right k h))
+  planned k h = rw (lane-at k h) (lane-planned (rowAt (tableOf v) k) (row-right v ok k h))

@@ -12,9 +12,10 @@ use Rattle.table.specs.Paper.{Row, rowAt, rightNumber, rightRow}
 use Rattle.table.specs.Value.{tableOf, wellFormed}
 use Rattle.table.specs.declared.Table.{Table as TableValue}
 use Rattle.table.proofs.Rules.{row-period, row-times, number-range}
+use Rattle.table.proofs.Used.{len-most, row-right}
 use Rattle.kernel.specs.Tick.{instant, planOf, cellAt, runOf}
 use Rattle.kernel.specs.Safe.{Fits, Safe, SafeRun}
-use Rattle.kernel.proofs.Plan.{plan-length, len-most, row-right, planned}
+use Rattle.kernel.proofs.Plan.{plan-length, planned}
 use Rattle.kernel.proofs.Link.{run-now, stands}
 
 time-most : (r : Row) → rightRow r ≡ true → (j : ℕ) → getD (r .times) j 0 ≤ largestNumber

@@ -14,10 +14,10 @@ use Rattle.words.specs.Buffer.{over, placed}
 use Rattle.refusals.specs.declared.Refusal.{Refusal}
 use Rattle.refusals.specs.declared.Refusal.the-variants.{BadTable, NoRoom}
 use Rattle.table.specs.Limits.{longestText, mostTicks}
-use Rattle.table.specs.Paper.{Row, Table, rowAt, waits, rightTable}
+use Rattle.table.specs.Paper.{Table, rowAt, waits}
 use Rattle.table.specs.Value.{long, tableOf, tableValue, emptyTable, wellFormed}
 use Rattle.table.specs.declared.Table.{Table as TableValue}
-use Rattle.text.specs.declared.Written.the-variants.{Bytes, Refused as NotWritten}
+use Rattle.text.specs.declared.Written.the-variants.{Refused as NotWritten}
 use Rattle.text.specs.Read.{accepted, refused, readText, readingOf}
 use Rattle.text.specs.Write.{tableText, written, writtenInto}
 use Rattle.figures.specs.declared.Bound.{Bound}
@@ -28,7 +28,8 @@ use Rattle.figures.specs.declared.Answer.the-variants.{Row as RowIs, Refused as
 use Rattle.figures.specs.Figures.{right, own, whole, split}
 use Rattle.figures.specs.declared.TableVerdict.the-variants.{Refused as NoVerdict}
 use Rattle.figures.specs.Answers.{rowAnswer, tableFigures}
-use Rattle.report.specs.Report.{reportText, refusedLine, answerText, reported, reportedInto, longestReport}
+use Rattle.refused.specs.Refused.{refusedLine}
+use Rattle.report.specs.Report.{reportText, answerText, reported, reportedInto, longestReport}
 use Rattle.kernel.specs.declared.First.{First}
 use Rattle.kernel.specs.declared.First.the-variants.{At, Not}
 use Rattle.kernel.specs.Rules.{Input, LegalRun, after, full, Complete}

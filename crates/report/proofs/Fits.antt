@@ -1,11 +1,10 @@
 -- No answer to a text is longer than an answer may be (`report-fits`, `answer-fits`): the line's bound comes from the limits.
-use mathlib.Core.Path.{_≡_, refl, sym, ap, _∙_}
+use mathlib.Core.Path.{_≡_, refl}
 use mathlib.Core.Bool.{true}
-use mathlib.Core.List.{List, [], _∷_, _++_, map}
+use mathlib.Core.List.{List, [], _∷_, map}
 use mathlib.Core.Option.{Option, none, some}
-use Prim.Native.Nat.{ℕ, zero, suc, _+_, _*_, _≤_, _<_}
+use Prim.Native.Nat.{ℕ, suc, _+_, _*_, _≤_}
 use native.Mathlib.Omega.{arith}
-use native.Mathlib.Numerals.{add-one}
 use native.Mathlib.Nat.{mul-le-mul-right, mul-le-mul-left}
 use lib.ListN.{length, length-append}
 use Rattle.ticks.specs.declared.Length.{Length}
@@ -15,15 +14,14 @@ use Rattle.words.proofs.Lists.{all-each}
 use Rattle.decimal.specs.Decimal.{digits, lastDigits}
 use Rattle.decimal.proofs.Digits.{length-some, length-grows}
 use Rattle.fields.specs.Fields.{fieldsText, line, joined}
-use Rattle.fields.proofs.Lines.{fields-none, fields-length, line-length, joined-next}
-use Rattle.refusals.specs.declared.Refusal.{Refusal}
-use Rattle.refusals.specs.Refusals.{numberOf, lineOf, fieldOf}
+use Rattle.fields.proofs.Lines.{fields-none, fields-length, line-length, lines-length}
 use Rattle.table.specs.Limits.{mostStretches, longestName, largestNumber}
 use Rattle.table.specs.Paper.{Row, Table, rowAt, parts, rightRow, rightTable}
 use Rattle.table.proofs.Rules.{row-name, row-deadline, number-range, name-length, table-size, table-right}
 use Rattle.text.specs.Read.{Answer, accepted, refused, readText}
 use Rattle.text.proofs.Back.{text-right}
-use Rattle.text.proofs.Places.{Place, text-place}
+use Rattle.text.proofs.Places.{text-place}
+use Rattle.refused.proofs.Fits.{refused-fits}
 use Rattle.figures.specs.declared.Bound.{Bound}
 use Rattle.figures.specs.declared.Verdict.{Verdict}
 use Rattle.figures.specs.declared.Verdict.the-variants.{Fits, Misses, Open}
@@ -32,8 +30,7 @@ use Rattle.figures.specs.declared.TableVerdict.the-variants.{Fits as TableFits,
 use Rattle.figures.specs.Figures.{whole, split, verdict, rowRounds}
 use Rattle.figures.specs.Answers.{figureOf, splitShown, figuresOf, tableVerdict}
 use Rattle.figures.proofs.Bounds.{whole-most, shown-most, fits-most, rounds-most}
-use Rattle.report.specs.Report.{figureText, verdictWord, figureIn, rowLine, tableWord, lastLine, reportText, refusedLine, answerTo, answerText, longestLine, longestReport}
-use Rattle.report.proofs.Lines.{place-there}
+use Rattle.report.specs.Report.{figureText, verdictWord, figureIn, rowLine, tableWord, lastLine, reportText, answerTo, answerText, longestLine, longestReport}
 
 -- no number of a report is larger: the most rounds of a row, for whole and for each stretch
 abbrev mostRounds : ℕ
@@ -138,14 +135,6 @@ last-fits : (v : TableVerdict) → length (lastLine v) ≤ length (spelled "tabl
 unfolding lastLine sum
 last-fits v = omega (arith, line-sum (spelled "table") (tableWord v ∷ []), table-short v)
 
--- n lines of at most m bytes each have n times m bytes at most
-pub lines-length : (f : ℕ → List ℕ) (m n : ℕ) → ((k : ℕ) → k < n → length (f k) ≤ m) → length (joined (map f (below n))) ≤ n * m
-unfolding joined below
-lines-length f m zero h = omega arith
-lines-length f m (suc n) h =
-    let e : joined (map f (below (suc n))) ≡ joined (map f (below n)) ++ f n = ap (λ k. joined (map f (below k))) (sym (add-one n)) ∙ joined-next f n in
-    omega (arith, ap length e, length-append (joined (map f (below n))) (f n), h n (omega arith), lines-length f m n (λ k lt. h k (omega arith)))
-
 -- THE REPORT OF A RIGHT TABLE IS NO LONGER THAN AN ANSWER MAY BE
 pub report-fits : (t : Table) → rightTable t ≡ true → length (reportText t) ≤ longestReport
 unfolding reportText
@@ -158,20 +147,6 @@ report-fits t e =
       lines-length lineAt longestLine (length t) (λ k lt. row-fits (rowAt t) k (λ i le. rules i _ (omega arith))),
       mul-le-mul-right longestLine (table-size t e .1),
       last-fits (tableVerdict t),
-    )
-
--- the line of a text's refusal is no longer than a line of a report
-pub refused-fits : (x : Refusal) → Place x → length (refusedLine x) ≤ longestLine
-unfolding refusedLine sum
-refused-fits x p =
-    omega (
-      arith,
-      ap (λ fs. length (line (spelled "refused") (digits (numberOf x) ∷ fs))) (place-there x (p .number)),
-      line-sum (spelled "refused") (digits (numberOf x) ∷ digits (lineOf x) ∷ digits (fieldOf x) ∷ []),
-      number-short (numberOf x) (omega (arith, p .number)),
-      number-short (lineOf x) (omega (arith, p .line)),
-      number-short (fieldOf x) (omega (arith, p .field)),
-      limits-agree,
     )
 
 -- NO ANSWER TO A TEXT IS LONGER THAN AN ANSWER MAY BE

@@ -1,20 +1,15 @@
 -- The parts of a report, as the code writes them, are the report.
 use mathlib.Core.Path.{_≡_, sym, ap, _∙_}
 use mathlib.Core.List.{List, [], _∷_, _++_, append-assoc}
-use Prim.Native.Nat.{ℕ, _+_, _≤_, _<_}
+use Prim.Native.Nat.{ℕ, _+_}
 use native.Mathlib.Omega.{arith}
-use borrow.Author.Tests.{le-leb, lt-leb}
 use lib.ListN.{length}
-use Rattle.words.specs.Spelled.{spelled}
-use Rattle.words.proofs.Choice.{if-true, if-false}
 use Rattle.decimal.specs.Decimal.{digits}
 use Rattle.fields.specs.Fields.{lineFeed, fieldsText, line}
 use Rattle.fields.proofs.Lines.{fields-append, fields-none, fields-length, line-length}
-use Rattle.refusals.specs.declared.Refusal.{Refusal}
-use Rattle.refusals.specs.Refusals.{numberOf, lineOf, fieldOf}
 use Rattle.table.specs.Paper.{Row}
 use Rattle.figures.specs.declared.RowFigures.{RowFigures}
-use Rattle.report.specs.Report.{figureText, verdictWord, figureIn, rowLine, placeOf, refusedLine}
+use Rattle.report.specs.Report.{figureText, verdictWord, figureIn, rowLine}
 use Rattle.report.specs.Parts.{judgedText, boundsText}
 
 pub row-parts : (r : Row) (f : RowFigures) → rowLine r f ≡ judgedText r (f .verdict) ++ boundsText f ++ (lineFeed ∷ [])
@@ -45,22 +40,3 @@ row-length r f =
       fields-length n [],
       fields-none,
     )
-
--- a refusal has a place, or none
-
-pub place-none : (why : Refusal) → 20 ≤ numberOf why → placeOf why ≡ []
-place-none why h = if-true _ _ (le-leb 20 (numberOf why) h)
-
-pub place-there : (why : Refusal) → numberOf why < 20 → placeOf why ≡ digits (lineOf why) ∷ digits (fieldOf why) ∷ []
-place-there why h = if-false _ _ (lt-leb 20 (numberOf why) h)
-
-pub refused-parts : (why : Refusal) → refusedLine why ≡ spelled "refused" ++ fieldsText (digits (numberOf why) ∷ []) ++ fieldsText (placeOf why) ++ (lineFeed ∷ [])
-unfolding refusedLine line
-refused-parts why =
-    let n = digits (numberOf why) ∷ [] in
-    ap (λ (l : List ℕ). l ++ (lineFeed ∷ []))
-    (ap (λ (l : List ℕ). spelled "refused" ++ l) (fields-append n (placeOf why)) ∙ sym (append-assoc (spelled "refused") (fieldsText n) (fieldsText (placeOf why))))
-
-pub refused-length : (why : Refusal) → length (refusedLine why) ≡ 9 + length (digits (numberOf why)) + length (fieldsText (placeOf why))
-unfolding refusedLine
-refused-length why = omega (arith, line-length (spelled "refused") (digits (numberOf why) ∷ placeOf why), fields-length (digits (numberOf why)) (placeOf why))

@@ -27,8 +27,9 @@ use Rattle.text.proofs.Back.{reading-accepted, reading-refused}
 use Rattle.figures.specs.declared.Slot.{Slot}
 use Rattle.figures.specs.declared.TableFigures.{TableFigures}
 use Rattle.figures.specs.Answers.{figuresOf, tableVerdict, slotOf, slots, tableFigures}
-use Rattle.figures.proofs.Tables.{rows-same, len-is, len-most}
-use Rattle.report.specs.Report.{rowLine, lastLine, reportText, refusedLine, answerTo, answerText, reported, reportedInto, longestReport}
+use Rattle.table.proofs.Used.{row-is, len-is, len-most}
+use Rattle.refused.specs.Refused.{refusedLine}
+use Rattle.report.specs.Report.{rowLine, lastLine, reportText, answerTo, answerText, reported, reportedInto, longestReport}
 use Rattle.report.specs.Parts.{noSlot, answerLine, lineAt, linesText}
 use Rattle.report.proofs.Fits.{report-fits}
 
@@ -43,7 +44,7 @@ module _ (v : TableValue) (ok : wellFormed v ≡ true) where
   line-is : (k : ℕ) → k < v .len → lineAt (v .rows) (slots t) k ≡ paperLine k
   unfolding slots
   line-is k h =
-      ap (λ (rows : ℕ → Row). answerLine (rows k) (getD (slots t) k noSlot .answer)) (rows-same v ok)
+      ap (λ (r : Row). answerLine r (getD (slots t) k noSlot .answer)) (row-is v ok k)
       ∙ ap (λ (s : Slot). answerLine (rowAt t k) (s .answer)) (filled-at (λ i. slotOf (RowIs (figuresOf (rowAt t) i))) (length t) _ noSlot k (omega (arith, len-is v ok)))
 
   lines-are : linesText (v .rows) (slots t) (v .len) ≡ joined (map paperLine (below (length t)))

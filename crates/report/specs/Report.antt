@@ -1,7 +1,6 @@
 -- The report: document 01, 'The report'.
 use mathlib.Core.List.{List, [], _∷_, _++_, map}
 use Prim.Native.Nat.{ℕ, _+_, _*_}
-use lib.Dec.{leb}
 use lib.ListN.{length}
 use Rattle.words.specs.Choice.{if_then_else_}
 use Rattle.words.specs.Lists.{below}
@@ -9,9 +8,7 @@ use Rattle.words.specs.Spelled.{spelled}
 use Rattle.words.specs.Buffer.{placed}
 use Rattle.decimal.specs.Decimal.{digits}
 use Rattle.fields.specs.Fields.{line, joined}
-use Rattle.refusals.specs.declared.Refusal.{Refusal}
 use Rattle.refusals.specs.declared.Refusal.the-variants.{BadTable}
-use Rattle.refusals.specs.Refusals.{numberOf, lineOf, fieldOf}
 use Rattle.table.specs.Limits.{mostRows, longestName}
 use Rattle.table.specs.Paper.{Row, Table, rowAt}
 use Rattle.table.specs.Value.{tableOf, wellFormed}
@@ -20,6 +17,7 @@ use Rattle.text.specs.declared.Written.{Written}
 use Rattle.text.specs.declared.Written.the-variants.{Refused}
 use Rattle.text.specs.Read.{Answer, accepted, refused, readText}
 use Rattle.text.specs.Write.{lengthIn}
+use Rattle.refused.specs.Refused.{refusedLine}
 use Rattle.figures.specs.declared.Figure.{Figure}
 use Rattle.figures.specs.declared.Figure.the-variants.{Is, No}
 use Rattle.figures.specs.declared.Verdict.{Verdict}
@@ -66,14 +64,6 @@ lastLine v = line (spelled "table") (tableWord v ∷ [])
 -- the report: one line a row, and the last line
 unfoldable pub reportText : Table → List ℕ
 reportText t = joined (map (λ k. rowLine (rowAt t k) (figuresOf (rowAt t) k)) (below (length t))) ++ lastLine (tableVerdict t)
-
--- where the text was refused: line and field; 20 to 23 have no place
-abbrev pub placeOf : Refusal → List (List ℕ)
-placeOf why = if leb 20 (numberOf why) then [] else digits (lineOf why) ∷ digits (fieldOf why) ∷ []
-
--- the line of a refusal: "refused", number, line, field
-unfoldable pub refusedLine : Refusal → List ℕ
-refusedLine why = line (spelled "refused") (digits (numberOf why) ∷ placeOf why)
 
 -- the answer to what was read
 abbrev pub answerTo : Answer → List ℕ

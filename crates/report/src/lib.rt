@@ -1,15 +1,15 @@
-// The report of a table, the line of a refusal, and the whole answer to a text, each put at the front of a lent buffer or not at all.
+// The report of a table, and the whole answer to a text, each put at the front of a lent buffer or not at all.
 ghost use mathlib.Core.Path.{_≡_};
 ghost use mathlib.Core.Bool.{true};
 ghost use mathlib.Core.List.{_∷_};
 ghost use Prim.Native.Nat.{_≤_};
 ghost use lib.ListN.{length};
 ghost use Rattle.words.specs.Buffer.{over, placed, fitted};
-ghost use Rattle.fields.specs.Fields.{tab, fieldsText};
+ghost use Rattle.fields.specs.Fields.{tab};
 ghost use Rattle.table.specs.Limits.{mostRows};
 ghost use Rattle.table.specs.Value.{rowOf, tableOf, wellFormed};
 ghost use Rattle.text.specs.Write.{lengthIn};
-ghost use Rattle.report.specs.Report.{figureText, verdictWord, figureIn, rowLine, tableWord, lastLine, reportText, placeOf, refusedLine, answerText, reported, reportedInto, longestReport};
+ghost use Rattle.report.specs.Report.{figureText, verdictWord, figureIn, rowLine, tableWord, lastLine, reportText, answerText, reported, reportedInto, longestReport};
 ghost use Rattle.report.specs.Parts.{judgedText, boundsText, answerLine, linesText};
 use fields::LINE_FEED;
 use figures::Answer;
@@ -26,9 +26,6 @@ use text::Written;
 
 // The most bytes of an answer to a text: 52 for each row's line, and 13 for the last.
 pub const LONGEST: usize = Table::ROWS * 52 + 13;
-
-// The lowest of the refusals that have no place in a text.
-const NO_PLACE: u64 = 20;
 
 // The figure with which a row fits.
 fn figure_of(verdict: Verdict) -> Figure
@@ -260,44 +257,6 @@ pub fn write(table: Table, out: &mut [u8]) -> Written
     write_report(table, out)
 }
 
-// Tabs and the place of a refusal, where it has one.
-fn write_place(why: Refusal, out: &mut [u8]) -> usize
-    requires { ⌜ length (fieldsText (placeOf why)) ≤ length (now out) ⌝ }
-    ensures { λ r. ⌜ (r ≡ length (fieldsText (placeOf why))) × (now (out .exit) ≡ over (fieldsText (placeOf why)) (now (out .entry))) ⌝ }
-{
-    if NO_PLACE <= why.number() {
-        return 0;
-    }
-    let mut at = fields::write_number(why.line() as u64, out);
-    at += fields::write_number(why.field() as u64, &mut out[at..]);
-    at
-}
-
-// How many bytes they have: two numbers of up to 20 digits, and a tab before each.
-fn place_len(why: Refusal) -> usize
-    ensures { λ r. ⌜ (r ≡ length (fieldsText (placeOf why))) × (r ≤ 42) ⌝ }
-{
-    if NO_PLACE <= why.number() {
-        return 0;
-    }
-    1 + decimal::width(why.line() as u64) + 1 + decimal::width(why.field() as u64)
-}
-
-// Writes the line of a refusal, or nothing.
-pub fn write_refused(why: Refusal, out: &mut [u8]) -> Written
-    ensures { λ r. ⌜ (r ≡ lengthIn (refusedLine why) (now (out .entry))) × (now (out .exit) ≡ placed (refusedLine why) (now (out .entry))) ⌝ }
-{
-    let number = why.number();
-    if out.len() < 9 + decimal::width(number) + place_len(why) {
-        return Written::Refused(Refusal::NoRoom);
-    }
-    let mut at = bytes::copy(b"refused", out);
-    at += fields::write_number(number, &mut out[at..]);
-    at += write_place(why, &mut out[at..]);
-    out[at] = LINE_FEED;
-    Written::Bytes(at + 1)
-}
-
 // Writes the whole answer to a text, that is its report or the line of its refusal, or nothing.
 pub fn answer(text: &[u8], out: &mut [u8]) -> Written
     ensures { λ r. ⌜ (r ≡ lengthIn (answerText (now (text .entry))) (now (out .entry))) × (now (out .exit) ≡ placed (answerText (now (text .entry))) (now (out .entry))) ⌝ }
@@ -306,6 +265,6 @@ pub fn answer(text: &[u8], out: &mut [u8]) -> Written
     let outcome = reading.outcome;
     match outcome {
         Outcome::Accepted => write_report(reading.table, out),
-        Outcome::Refused(why) => write_refused(why, out),
+        Outcome::Refused(why) => refused::write(why, out),
     }
 }

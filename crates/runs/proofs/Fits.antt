@@ -13,7 +13,7 @@ use Rattle.words.proofs.Lists.{all-each}
 use Rattle.decimal.specs.Decimal.{digits, lastDigits}
 use Rattle.decimal.proofs.Digits.{length-some, length-grows}
 use Rattle.fields.specs.Fields.{fieldsText, line}
-use Rattle.fields.proofs.Lines.{fields-none, fields-length, line-length}
+use Rattle.fields.proofs.Lines.{fields-none, fields-length, line-length, lines-length}
 use Rattle.refusals.specs.declared.Refusal.the-variants.{ManyTicks}
 use Rattle.table.specs.Limits.{longestName, mostTicks}
 use Rattle.table.specs.Paper.{Row, Table, rowAt, rightRow, rightTable}
@@ -23,9 +23,9 @@ use Rattle.text.proofs.Back.{text-right}
 use Rattle.text.proofs.Places.{text-place}
 use Rattle.kernel.specs.Run.{completion}
 use Rattle.kernel.proofs.Completions.{completion-most}
-use Rattle.report.specs.Report.{refusedLine}
-use Rattle.report.proofs.Lines.{place-none, refused-length}
-use Rattle.report.proofs.Fits.{lines-length, refused-fits}
+use Rattle.refused.specs.Refused.{refusedLine}
+use Rattle.refused.proofs.Lines.{place-none, refused-length}
+use Rattle.refused.proofs.Fits.{refused-fits}
 use Rattle.runs.specs.Runs.{instantText, runLine, runText, answerTo, runAnswer, longestLine, longestRun}
 
 -- the most digits of an instant

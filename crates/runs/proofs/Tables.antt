@@ -23,13 +23,13 @@ use Rattle.text.specs.declared.Outcome.the-variants.{Accepted, Refused as Refus
 use Rattle.text.specs.declared.Reading.{Reading}
 use Rattle.text.specs.Read.{Answer, accepted, readText, readingOf}
 use Rattle.text.proofs.Back.{reading-accepted, reading-refused}
-use Rattle.figures.proofs.Tables.{rows-same, len-is}
+use Rattle.table.proofs.Used.{row-is, len-is}
 use Rattle.kernel.specs.declared.Outcome.the-variants.{Ran, Refused}
 use Rattle.kernel.specs.declared.Slot.{Slot}
 use Rattle.kernel.specs.declared.FullRun.{FullRun}
 use Rattle.kernel.specs.Run.{completion, slotOf, completions, fullRun}
 use Rattle.kernel.proofs.Completions.{run-there, run-many}
-use Rattle.report.specs.Report.{refusedLine}
+use Rattle.refused.specs.Refused.{refusedLine}
 use Rattle.runs.specs.Runs.{instantText, runLine, runText, answerTo, runAnswer, longestRun}
 use Rattle.runs.specs.Parts.{firstText, noSlot, lineAt, linesText}
 use Rattle.runs.proofs.Fits.{table-fits}
@@ -50,7 +50,7 @@ module _ (v : TableValue) (ok : wellFormed v ≡ true) (n : ℕ) where
   line-is : (k : ℕ) → k < v .len → lineAt (v .rows) (completions t n) k ≡ paperLine k
   unfolding completions runLine
   line-is k h =
-      ap (λ (rows : ℕ → Row). line (rows k .name) (firstText (getD (completions t n) k noSlot .first) ∷ [])) (rows-same v ok)
+      ap (λ (r : Row). line (r .name) (firstText (getD (completions t n) k noSlot .first) ∷ [])) (row-is v ok k)
       ∙ ap (λ (s : Slot). line (rowAt t k .name) (firstText (s .first) ∷ [])) (filled-at (λ i. slotOf (completion (rowAt t) i n)) (length t) _ noSlot k (omega (arith, len-is v ok)))
       ∙ ap (λ (l : List ℕ). line (rowAt t k .name) (l ∷ [])) (slot-text (completion (rowAt t) k n))
 

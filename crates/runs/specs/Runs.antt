@@ -14,7 +14,7 @@ use Rattle.table.specs.Limits.{mostRows, longestName, mostTicks}
 use Rattle.table.specs.Paper.{Row, Table, rowAt}
 use Rattle.text.specs.Read.{Answer, accepted, refused, readText}
 use Rattle.kernel.specs.Run.{completion}
-use Rattle.report.specs.Report.{refusedLine}
+use Rattle.refused.specs.Refused.{refusedLine}
 
 -- the instant of a completion; a hyphen where the job isn't complete
 abbrev pub instantText : Option ℕ → List ℕ

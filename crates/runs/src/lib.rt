@@ -113,7 +113,7 @@ fn write_run(table: Table, ticks: u64, out: &mut [u8]) -> Written
     let run = kernel::full_run(table, ticks);
     let outcome = run.outcome;
     match outcome {
-        kernel::Outcome::Refused(why) => report::write_refused(why, out),
+        kernel::Outcome::Refused(why) => refused::write(why, out),
         kernel::Outcome::Ran => {
             if out.len() < lines_len(table, run) {
                 return Written::Refused(Refusal::NoRoom);
@@ -131,6 +131,6 @@ pub fn answer(text: &[u8], ticks: u64, out: &mut [u8]) -> Written
     let outcome = reading.outcome;
     match outcome {
         Outcome::Accepted => write_run(reading.table, ticks, out),
-        Outcome::Refused(why) => report::write_refused(why, out),
+        Outcome::Refused(why) => refused::write(why, out),
     }
 }

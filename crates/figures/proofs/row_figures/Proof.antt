@@ -10,9 +10,10 @@ use lib.ListN.{length}
 use Rattle.words.proofs.Choice.{if-true, if-false, and-both, and-false, and-last-false}
 use Rattle.table.specs.Paper.{Row, rowAt}
 use Rattle.table.specs.Value.{tableOf, wellFormed}
+use Rattle.table.proofs.Used.{len-is, len-most}
 use Rattle.figures.specs.Answers.{figuresOf, rowAnswer}
 use Rattle.figures.specs.declared.Answer.the-variants.{Row as RowIs, Refused}
-use Rattle.figures.proofs.Tables.{rows-same, len-is, len-most, row-kept}
+use Rattle.figures.proofs.Tables.{rows-same, row-kept}
 use borrow.Author.Needs.{needs}
 use Rattle.figures.proofs.row_figures.Statement.{statement}
 use Rattle.figures.proofs.row_figures.Tie as tie

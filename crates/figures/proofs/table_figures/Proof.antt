@@ -14,13 +14,14 @@ use Rattle.table.specs.Paper.{Row, rowAt}
 use Rattle.table.specs.Value.{tableOf, wellFormed}
 use Rattle.table.specs.declared.Table.{Table as TableValue}
 use Rattle.refusals.specs.declared.Refusal.the-variants.{NoSuchRow}
+use Rattle.table.proofs.Used.{len-is, len-most}
 use Rattle.figures.specs.Answers.{figuresOf, slotOf, slots as slotsOf, joinedOf, tableVerdict, tableFigures}
 use Rattle.figures.specs.Work.{rowsOf}
 use Rattle.figures.specs.declared.Answer.the-variants.{Row as RowIs, Refused}
 use Rattle.figures.specs.declared.RowFigures.{RowFigures}
 use Rattle.figures.specs.declared.TableFigures.{TableFigures}
 use Rattle.figures.specs.declared.Slot.{Slot}
-use Rattle.figures.proofs.Tables.{rows-same, len-is, len-most, row-kept, verdictOf, verdict-whole}
+use Rattle.figures.proofs.Tables.{rows-same, row-kept, verdictOf, verdict-whole}
 use Rattle.figures.proofs.table_figures.Statement.{statement}
 use Rattle.figures.proofs.table_figures.Tie as tie
 

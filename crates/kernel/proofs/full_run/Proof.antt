@@ -7,11 +7,11 @@ use borrow.Author.Tests.{lt-ltb, le-ltb, not-true, not-false}
 use borrow.Author.Needs.{needs}
 use Rattle.table.specs.Limits.{mostTicks}
 use Rattle.table.specs.Value.{tableOf, wellFormed}
+use Rattle.table.proofs.Used.{len-most}
 use Rattle.kernel.specs.declared.Outcome.the-variants.{Ran}
 use Rattle.kernel.specs.Run.{completions, fullRun}
 use Rattle.kernel.specs.Noted.{firstsAfter, slotsOf}
 use Rattle.kernel.specs.Safe.{SafeRun}
-use Rattle.kernel.proofs.Plan.{len-most}
 use Rattle.kernel.proofs.Completions.{answers}
 use Rattle.kernel.proofs.Safe.{safe-run}
 use Rattle.kernel.proofs.full_run.Statement.{statement}

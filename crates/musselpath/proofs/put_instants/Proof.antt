@@ -8,7 +8,7 @@ use lib.ListN.{length}
 use Rattle.words.specs.Lists.{below}
 use Rattle.words.specs.Buffer.{over}
 use Rattle.words.proofs.Put.{Put, put-none, put-byte}
-use Rattle.figures.proofs.Tables.{len-is, len-most}
+use Rattle.table.proofs.Used.{len-is, len-most}
 use Rattle.musselpath.specs.Parts.{numbersOf}
 use Rattle.musselpath.proofs.Answers.{numbers-next, numbers-are}
 use Rattle.musselpath.proofs.put_instants.Statement.{statement}

@@ -10,7 +10,7 @@ use Rattle.table.specs.Value.{tableOf}
 use Rattle.text.specs.declared.Written.the-variants.{Bytes}
 use Rattle.text.specs.Read.{accepted}
 use Rattle.text.proofs.Writer.{length-short, length-whole}
-use Rattle.figures.proofs.Tables.{len-most}
+use Rattle.table.proofs.Used.{len-most}
 use Rattle.runs.specs.Runs.{answerTo}
 use Rattle.runs.specs.Parts.{linesText}
 use Rattle.runs.proofs.Tables.{answer-ran, answer-refused, answer-short}
@@ -39,8 +39,8 @@ full-run-requires c κs = search needs
 enum-known-outcome : tie.Need-enum-known-outcome
 enum-known-outcome c = search needs
 
-write-refused-requires : tie.Need-write-refused-requires
-write-refused-requires c κs = search needs
+write-requires : tie.Need-write-requires
+write-requires c κs = search needs
 
 enum-told : tie.Need-enum-told
 enum-told c = search needs
@@ -64,7 +64,7 @@ same-length : tie.Need-same-length
 same-length c = search needs
 
 returns-2 : tie.Need-returns-2
-returns-2 c = rw (answer-refused (c .before .before .before .before .before .before .before .before .before .args .table) (c .before .before .before .before .before .before .before .before .before .pre) (c .before .before .before .before .before .before .before .before .before .args .ticks) (c .before .before .before .before .before .before .before .full-run .result) _ (c .before .before .before .before .before .before .before .full-run .ensures) (c .before .before .before .before .before .outcome .given .1)) (c .before .before .write-refused .ensures)
+returns-2 c = rw (answer-refused (c .before .before .before .before .before .before .before .before .before .args .table) (c .before .before .before .before .before .before .before .before .before .pre) (c .before .before .before .before .before .before .before .before .before .args .ticks) (c .before .before .before .before .before .before .before .full-run .result) _ (c .before .before .before .before .before .before .before .full-run .ensures) (c .before .before .before .before .before .outcome .given .1)) (c .before .before .write .ensures)
 
 same-length-2 : tie.Need-same-length-2
 same-length-2 c = search needs
@@ -84,7 +84,7 @@ write-run-spec =
     (tie.spec
     full-run-requires
     enum-known-outcome
-    write-refused-requires
+    write-requires
     enum-told
     lines-len-requires
     returns

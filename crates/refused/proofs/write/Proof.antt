@@ -1,4 +1,4 @@
--- `write_refused` meets its contract: the whole length is known before the first byte is written.
+-- `write` meets its contract: the whole length is known before the first byte is written.
 use mathlib.Core.Path.{_≡_, refl, sym, ap, _∙_}
 use mathlib.Core.List.{List, [], _∷_, _++_}
 use Prim.Native.Nat.{ℕ, _+_, _≤_, _<_}
@@ -14,11 +14,11 @@ use Rattle.fields.specs.Fields.{lineFeed, fieldsText}
 use Rattle.fields.proofs.Lines.{put-field, put-start}
 use Rattle.text.specs.declared.Written.the-variants.{Bytes}
 use Rattle.text.proofs.Writer.{length-short, length-whole}
-use Rattle.report.specs.Report.{placeOf, refusedLine}
-use Rattle.report.proofs.Lines.{refused-parts, refused-length}
+use Rattle.refused.specs.Refused.{placeOf, refusedLine}
+use Rattle.refused.proofs.Lines.{refused-parts, refused-length}
 use borrow.Author.Needs.{needs}
-use Rattle.report.proofs.write_refused.Statement.{statement}
-use Rattle.report.proofs.write_refused.Tie as tie
+use Rattle.refused.proofs.write.Statement.{statement}
+use Rattle.refused.proofs.write.Tie as tie
 
 -- the buffer as the call begins, and the parts of the line
 abbrev bufS : tie.Start → List ℕ
@@ -174,8 +174,8 @@ returns-2 c =
     let d = bufS (c .before .before .before .before .before .before .before .before .before .before .before .before .before .before .before .before .before .before) in
     (ap Bytes (put4 c .end) ∙ sym (length-whole l d (room (c .before .before .before .before .before .before .before .before .before .before .before .before .before))), put4 c .front ∙ sym (placed-fits l d (room (c .before .before .before .before .before .before .before .before .before .before .before .before .before))))
 
-pub write-refused-spec : {M : Type 1} → statement M
-write-refused-spec =
+pub write-spec : {M : Type 1} → statement M
+write-spec =
     tie.close
     (tie.spec
     number-requires

@@ -10,11 +10,11 @@ use Rattle.decimal.specs.Decimal.{digits}
 use Rattle.refusals.specs.Refusals.{lineOf, fieldOf}
 use Rattle.fields.specs.Fields.{fieldsText}
 use Rattle.fields.proofs.Lines.{fields-front, put-field, put-fields}
-use Rattle.report.specs.Report.{placeOf}
-use Rattle.report.proofs.Lines.{place-none, place-there}
+use Rattle.refused.specs.Refused.{placeOf}
+use Rattle.refused.proofs.Lines.{place-none, place-there}
 use borrow.Author.Needs.{needs}
-use Rattle.report.proofs.write_place.Statement.{statement}
-use Rattle.report.proofs.write_place.Tie as tie
+use Rattle.refused.proofs.write_place.Statement.{statement}
+use Rattle.refused.proofs.write_place.Tie as tie
 
 -- the buffer as the call begins, and the fields
 abbrev bufS : tie.Start → List ℕ

@@ -9,10 +9,10 @@ use Rattle.decimal.proofs.Digits.{length-below}
 use Rattle.refusals.specs.Refusals.{numberOf, lineOf, fieldOf}
 use Rattle.fields.specs.Fields.{fieldsText}
 use Rattle.fields.proofs.Lines.{fields-none, fields-length}
-use Rattle.report.proofs.Lines.{place-none, place-there}
+use Rattle.refused.proofs.Lines.{place-none, place-there}
 use borrow.Author.Needs.{needs}
-use Rattle.report.proofs.place_len.Statement.{statement}
-use Rattle.report.proofs.place_len.Tie as tie
+use Rattle.refused.proofs.place_len.Statement.{statement}
+use Rattle.refused.proofs.place_len.Tie as tie
 
 -- line and field have at most 20 digits, as every number of 64 bits
 line-short : (c : tie.After-width) → c .width .result ≤ 20
