@@ -40,6 +40,10 @@ abbrev pub slotOf : Option ℕ → Slot
 slotOf (some c) = record { first = At (record { 0 = c }) }
 slotOf none = record { first = Not }
 
+-- what is said to stand behind the end of an array of answers, where nothing does
+abbrev pub noSlot : Slot
+noSlot = record { first = At (record { 0 = 0 }) }
+
 -- the answers of all rows, and none behind the last
 unfoldable pub completions : Table → ℕ → List Slot
 completions t n = map (λ k. slotOf (completion (rowAt t) k n)) (below (length t)) ++ replicate (mostRows - length t) (slotOf none)

@@ -22,10 +22,10 @@ use Rattle.text.specs.declared.Written.the-variants.{Bytes, Refused}
 use Rattle.text.specs.Write.{lengthIn}
 use Rattle.kernel.specs.declared.Slot.{Slot}
 use Rattle.kernel.specs.declared.FullRun.{FullRun}
-use Rattle.kernel.specs.Run.{completion, slotOf, completions, fullRun}
+use Rattle.kernel.specs.Run.{completion, slotOf, noSlot, completions, fullRun}
 use Rattle.kernel.proofs.Completions.{run-there}
 use Rattle.musselpath.specs.Boundary.{instantOf, instants}
-use Rattle.musselpath.specs.Parts.{firstNumber, noSlot, numbersOf}
+use Rattle.musselpath.specs.Parts.{firstNumber, numbersOf}
 
 -- a refusal's number has few bits
 pub number-small : (why : Refusal) → numberOf why ≤ 23

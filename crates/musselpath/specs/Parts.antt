@@ -7,15 +7,12 @@ use Rattle.ticks.specs.Ticks.{most}
 use Rattle.kernel.specs.declared.First.{First}
 use Rattle.kernel.specs.declared.First.the-variants.{At, Not}
 use Rattle.kernel.specs.declared.Slot.{Slot}
+use Rattle.kernel.specs.Run.{noSlot}
 
 -- a completion, as a number
 abbrev pub firstNumber : First → ℕ
 firstNumber (At i) = i .0
 firstNumber Not = most
-
--- what is said to stand behind an array's end, where nothing does
-abbrev pub noSlot : Slot
-noSlot = record { first = At (record { 0 = 0 }) }
 
 -- the numbers of the first n rows
 abbrev pub numbersOf : List Slot → ℕ → List ℕ

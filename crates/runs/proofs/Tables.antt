@@ -27,11 +27,11 @@ use Rattle.table.proofs.Used.{row-is, len-is}
 use Rattle.kernel.specs.declared.Outcome.the-variants.{Ran, Refused}
 use Rattle.kernel.specs.declared.Slot.{Slot}
 use Rattle.kernel.specs.declared.FullRun.{FullRun}
-use Rattle.kernel.specs.Run.{completion, slotOf, completions, fullRun}
+use Rattle.kernel.specs.Run.{completion, slotOf, noSlot, completions, fullRun}
 use Rattle.kernel.proofs.Completions.{run-there, run-many}
 use Rattle.refused.specs.Refused.{refusedLine}
 use Rattle.runs.specs.Runs.{instantText, runLine, runText, answerTo, runAnswer, longestRun}
-use Rattle.runs.specs.Parts.{firstText, noSlot, lineAt, linesText}
+use Rattle.runs.specs.Parts.{firstText, lineAt, linesText}
 use Rattle.runs.proofs.Fits.{table-fits}
 
 -- a completion and its value have the same text

@@ -11,15 +11,12 @@ use Rattle.table.specs.declared.Row.{Row as RowValue}
 use Rattle.kernel.specs.declared.First.{First}
 use Rattle.kernel.specs.declared.First.the-variants.{At, Not}
 use Rattle.kernel.specs.declared.Slot.{Slot}
+use Rattle.kernel.specs.Run.{noSlot}
 
 -- a completion, as the machine has it
 abbrev pub firstText : First → List ℕ
 firstText (At i) = digits (i .0)
 firstText Not = spelled "-"
-
--- what is said to stand behind an array's end, where nothing does
-abbrev pub noSlot : Slot
-noSlot = record { first = At (record { 0 = 0 }) }
 
 -- the line of row k, from 0
 abbrev pub lineAt : List RowValue → List Slot → ℕ → List ℕ
