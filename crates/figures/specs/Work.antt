@@ -4,6 +4,7 @@ use mathlib.Core.Bool.{true}
 use mathlib.Core.List.{List, [], _∷_}
 use Prim.Native.Nat.{ℕ, _*_, _≤_, _<_}
 use lib.ListN.{length, getD}
+use Rattle.table.specs.Limits.{mostRows}
 use Rattle.table.specs.Paper.{Row, parts, work, rightRow}
 use Rattle.table.specs.Value.{noValue, rowOf, rowValue}
 use Rattle.table.specs.declared.Row.{Row as RowValue}
@@ -29,9 +30,9 @@ rowsFrom periods works i = record { name = []; period = getD periods i 0; deadli
 
 -- k rows above, whose numbers are safe
 pub record Modest (k : ℕ) (periods works : List ℕ) : Type 0 where
-  pub few : k ≤ 16
-  pub periods-size : length periods ≡ 16
-  pub works-size : length works ≡ 16
+  pub few : k ≤ mostRows
+  pub periods-size : length periods ≡ mostRows
+  pub works-size : length works ≡ mostRows
   pub period-some : (i : ℕ) → i < k → 1 ≤ getD periods i 0
   pub period-safe : (i : ℕ) → i < k → getD periods i 0 ≤ safeNumber
   pub work-safe : (i : ℕ) → i < k → getD works i 0 ≤ safeNumber

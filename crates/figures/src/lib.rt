@@ -3,6 +3,7 @@ ghost use mathlib.Core.Path.{_≡_};
 ghost use mathlib.Core.List.{_∷_, map};
 ghost use Prim.Native.Nat.{ℕ, _+_, _-_, _*_, _<_, _≤_};
 ghost use lib.ListN.{length, getD};
+ghost use Rattle.table.specs.Limits.{mostRows, mostTimes};
 ghost use Rattle.table.specs.Paper.{parts, work};
 ghost use Rattle.table.specs.Value.{ticks, rowOf, noValue};
 ghost use Rattle.figures.specs.Figures.{right, own, atMost, single, lesser};
@@ -90,7 +91,7 @@ fn work_of(row: Row) -> u64
 }
 
 fn above_of(rows: [Row; Table::ROWS], k: usize) -> Above
-    requires { ⌜ (k ≤ 16) × ((i : ℕ) → i < k → Kept (getD rows i noValue)) ⌝ }
+    requires { ⌜ (k ≤ mostRows) × ((i : ℕ) → i < k → Kept (getD rows i noValue)) ⌝ }
     ensures { λ r. ⌜ Taken rows k (r .periods) (r .works) ⌝ }
 {
     let mut periods = [0u64; Table::ROWS];
@@ -108,8 +109,8 @@ fn above_of(rows: [Row; Table::ROWS], k: usize) -> Above
 // What the rows above ask for in a window of t ticks. For each row `until` has the instant up to which its count of releases
 // holds, and `sum` is what those counts come to: as t only rises, a row is divided only where t has passed that instant.
 fn demand_at(periods: &[u64], works: &[u64], k: usize, t: u64, sum: u64, until: &mut [u64]) -> u64
-    requires { ⌜ Modest k (now periods) (now works) × (t ≤ safeNumber) × (length (now until) ≡ 16) × Counted (rowsFrom (now periods) (now works)) k t sum (now until) ⌝ }
-    ensures { λ r. ⌜ CountedAt (rowsFrom (now (periods .entry)) (now (works .entry))) k t r (now (until .exit)) × (length (now (until .exit)) ≡ 16) ⌝ }
+    requires { ⌜ Modest k (now periods) (now works) × (t ≤ safeNumber) × (length (now until) ≡ mostRows) × Counted (rowsFrom (now periods) (now works)) k t sum (now until) ⌝ }
+    ensures { λ r. ⌜ CountedAt (rowsFrom (now (periods .entry)) (now (works .entry))) k t r (now (until .exit)) × (length (now (until .exit)) ≡ mostRows) ⌝ }
 {
     let mut total = sum;
     let mut i: usize = 0;
@@ -159,7 +160,7 @@ fn solve(above: Above, k: usize, c: u64, d: u64) -> Worked
 
 // The suspension before the stretch at place j; none before the first.
 fn suspension(times: [Length; Table::TIMES], j: usize) -> u64
-    requires { ⌜ j ≤ 7 ⌝ }
+    requires { ⌜ j ≤ mostTimes ⌝ }
     ensures { λ r. ⌜ r ≡ getD (0 ∷ map ticks times) j 0 ⌝ }
 {
     if j == 0 {
@@ -170,8 +171,8 @@ fn suspension(times: [Length; Table::TIMES], j: usize) -> u64
 
 // The recurrence for each C by itself, and the sum of the results and all S.
 fn split_of(above: Above, rows: [Row; Table::ROWS], k: usize) -> Worked
-    requires { ⌜ (k < 16) × Taken rows k (above .periods) (above .works) × Kept (getD rows k noValue) ⌝ }
-    ensures { λ r. ⌜ (r ≡ splitWorked (rowsOf rows) k) × (r .rounds ≤ 16 * safeNumber) ⌝ }
+    requires { ⌜ (k < mostRows) × Taken rows k (above .periods) (above .works) × Kept (getD rows k noValue) ⌝ }
+    ensures { λ r. ⌜ (r ≡ splitWorked (rowsOf rows) k) × (r .rounds ≤ mostRows * safeNumber) ⌝ }
 {
     let row = rows[k];
     let times = row.times;
@@ -264,7 +265,7 @@ fn own_of(row: Row) -> u64
 
 // The figures of row k, from 0, of right rows.
 fn figures_at(rows: [Row; Table::ROWS], k: usize) -> RowFigures
-    requires { ⌜ (k < 16) × ((i : ℕ) → i ≤ k → Kept (getD rows i noValue)) ⌝ }
+    requires { ⌜ (k < mostRows) × ((i : ℕ) → i ≤ k → Kept (getD rows i noValue)) ⌝ }
     ensures { λ r. ⌜ r ≡ figuresOf (rowsOf rows) k ⌝ }
 {
     let above = above_of(rows, k);

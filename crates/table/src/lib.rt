@@ -1,5 +1,5 @@
 // A table of rows, by value: its limits, and the test that a value keeps every rule.
-// A row keeps zeros behind its name and behind its times, and rows that are not used are all isZero: so no count can disagree with what it counts.
+// A row keeps zeros behind its name and behind its times, and rows that are not used are all zero: so no count can disagree with what it counts.
 ghost use mathlib.Core.Path.{_≡_};
 ghost use Prim.Native.Nat.{_≤_};
 ghost use lib.Dec.{eqb, ltb};
@@ -7,6 +7,7 @@ ghost use lib.ListN.{length, take, drop};
 ghost use mathlib.Core.List.{[], map};
 ghost use Rattle.words.specs.Lists.{isZero, sum, all, same};
 ghost use Rattle.words.specs.Choice.{_and_};
+ghost use Rattle.table.specs.Limits.{mostRows, mostTimes};
 ghost use Rattle.table.specs.Paper.{nameByte, rightName, rightNumber, rightCount, waits};
 ghost use Rattle.table.specs.Value.{ticks, rowOf, emptyRow, emptyTable, nameIn, wellFormed};
 ghost use Rattle.table.specs.Tests.{rightValue, unused, rowsTest};
@@ -209,7 +210,7 @@ fn zero_bytes(bytes: &[u8]) -> bool
 }
 
 fn zero_times(times: [Length; Table::TIMES], from: usize) -> bool
-    requires { ⌜ from ≤ 7 ⌝ }
+    requires { ⌜ from ≤ mostTimes ⌝ }
     ensures { λ r. ⌜ r ≡ all isZero (drop from (map ticks times)) ⌝ }
 {
     let mut i = from;
@@ -232,7 +233,7 @@ fn right_number(x: Length) -> bool
 }
 
 fn right_times(times: [Length; Table::TIMES], count: usize) -> bool
-    requires { ⌜ count ≤ 7 ⌝ }
+    requires { ⌜ count ≤ mostTimes ⌝ }
     ensures { λ r. ⌜ r ≡ all rightNumber (take count (map ticks times)) ⌝ }
 {
     let mut i: usize = 0;
@@ -281,7 +282,7 @@ fn right_row(row: Row) -> bool
     )
 }
 
-// Whether a row that is not in use is all isZero.
+// Whether a row that is not in use is all zero.
 fn unused_row(row: Row) -> bool
     ensures { λ r. ⌜ r ≡ unused row ⌝ }
 {
@@ -309,7 +310,7 @@ fn same_name(a: [u8; Table::NAME], b: [u8; Table::NAME]) -> bool
 
 // Whether one of the first n rows has the name.
 fn named(rows: [Row; Table::ROWS], n: usize, name: [u8; Table::NAME]) -> bool
-    requires { ⌜ n ≤ 16 ⌝ }
+    requires { ⌜ n ≤ mostRows ⌝ }
     ensures { λ r. ⌜ r ≡ nameIn name (take n rows) ⌝ }
 {
     let mut i: usize = 0;
@@ -326,7 +327,7 @@ fn named(rows: [Row; Table::ROWS], n: usize, name: [u8; Table::NAME]) -> bool
 
 // Whether the first n rows are right, each after those above it.
 fn rows_right(rows: [Row; Table::ROWS], n: usize) -> bool
-    requires { ⌜ n ≤ 16 ⌝ }
+    requires { ⌜ n ≤ mostRows ⌝ }
     ensures { λ r. ⌜ r ≡ rowsTest [] (take n rows) ⌝ }
 {
     let mut waiting = false;
@@ -350,7 +351,7 @@ fn rows_right(rows: [Row; Table::ROWS], n: usize) -> bool
 }
 
 fn rest_unused(rows: [Row; Table::ROWS], n: usize) -> bool
-    requires { ⌜ n ≤ 16 ⌝ }
+    requires { ⌜ n ≤ mostRows ⌝ }
     ensures { λ r. ⌜ r ≡ all unused (drop n rows) ⌝ }
 {
     let mut i = n;
