@@ -8,6 +8,7 @@ use native.Mathlib.Decide.{decLt}
 use native.Mathlib.Omega.{arith}
 use lib.ListN.{length, getD, set, replicate, getD-replicate}
 use lib.Seq.{getD-set-same, getD-set-other}
+use Rattle.table.specs.Limits.{mostRows}
 use Rattle.table.specs.Paper.{Row, parts, work}
 use Rattle.figures.specs.Figures.{arrivals, demand}
 use Rattle.figures.specs.Work.{safeNumber, rowsFrom, Modest, Counted, CountedAt}
@@ -127,13 +128,13 @@ demand-safe (suc k) n t periods works m h s =
     omega (arith, demand-safe k n t periods works m (omega arith) s, mul-le-mul a b)
 
 -- at the start no release is counted
-pub counted-start : (rows : ℕ → Row) (k t : ℕ) → ((i : ℕ) → i < k → 1 ≤ rows i .period) → k ≤ 16 → Counted rows k t 0 (replicate 16 0)
+pub counted-start : (rows : ℕ → Row) (k t : ℕ) → ((i : ℕ) → i < k → 1 ≤ rows i .period) → k ≤ mostRows → Counted rows k t 0 (replicate mostRows 0)
 counted-start rows k t some few =
     record {
       at = 0;
       before = omega arith;
       sums = none k (λ i h. some i h);
-      holds = λ i h. getD-replicate {A = ℕ} 16 i 0 0 (omega arith) ∙ (let z : 0 ≡ arrivals (rows i) 0 * rows i .period = omega (arith, ap (λ n. n * rows i .period) (arrivals-zero (rows i) (some i h))) in z);
+      holds = λ i h. getD-replicate {A = ℕ} mostRows i 0 0 (omega arith) ∙ (let z : 0 ≡ arrivals (rows i) 0 * rows i .period = omega (arith, ap (λ n. n * rows i .period) (arrivals-zero (rows i) (some i h))) in z);
     }
   where
     none : (m : ℕ) → ((i : ℕ) → i < m → 1 ≤ rows i .period) → 0 ≡ demand rows m 0

@@ -35,7 +35,7 @@ own-is v k = ap sum (kept-times v k) ∙ sum-padded mostTimes (rowOf v .times) �
 
 -- the C among the times stand at the even places
 stretches-at : (times : List ℕ) → rightCount (length times) ≡ true
-    → getD (padded 7 times) 0 0 + getD (padded 7 times) 2 0 + getD (padded 7 times) 4 0 + getD (padded 7 times) 6 0 ≡ work (parts times)
+    → getD (padded mostTimes times) 0 0 + getD (padded mostTimes times) 2 0 + getD (padded mostTimes times) 4 0 + getD (padded mostTimes times) 6 0 ≡ work (parts times)
 unfolding padded rightCount _and_
 stretches-at [] e = absurd (false≢true e)
 stretches-at (a ∷ []) e = omega arith

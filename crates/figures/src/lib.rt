@@ -297,7 +297,7 @@ fn figures_at(rows: [Row; Table::ROWS], k: usize) -> RowFigures
 pub fn row_figures(t: Table, number: usize) -> Answer
     ensures { λ r. ⌜ r ≡ rowAnswer t number ⌝ }
 {
-    if !t.well_formed() {
+    if !rules::well_formed(t) {
         return Answer::Refused(Refusal::BadTable);
     }
     if number < 1 {
@@ -333,7 +333,7 @@ pub fn table_figures(t: Table) -> TableFigures
 {
     let rows = t.rows;
     let len = t.len;
-    if !t.well_formed() {
+    if !rules::well_formed(t) {
         let none = Slot {
             answer: Answer::Refused(Refusal::BadTable),
         };

@@ -258,7 +258,7 @@ pub fn full_run(t: Table, ticks: u64) -> FullRun
 {
     let none = Slot { first: First::Not };
     let nothing = [none; Table::ROWS];
-    if !t.well_formed() {
+    if !rules::well_formed(t) {
         return FullRun {
             outcome: Outcome::Refused(Refusal::BadTable),
             rows: nothing,

@@ -251,7 +251,7 @@ fn write_report(table: Table, out: &mut [u8]) -> Written
 pub fn write(table: Table, out: &mut [u8]) -> Written
     ensures { λ r. ⌜ (r ≡ reported table (now (out .entry))) × (now (out .exit) ≡ reportedInto table (now (out .entry))) ⌝ }
 {
-    if !table.well_formed() {
+    if !rules::well_formed(table) {
         return Written::Refused(Refusal::BadTable);
     }
     write_report(table, out)

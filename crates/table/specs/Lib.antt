@@ -1,4 +1,3 @@
 pub mod Limits
 pub mod Paper
 pub mod Value
-pub mod Tests

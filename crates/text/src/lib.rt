@@ -80,7 +80,7 @@ fn right_fields(k: usize) -> bool
     if k < FIXED {
         return false;
     }
-    table::right_count(k - FIXED)
+    rules::right_count(k - FIXED)
 }
 
 // The name as a row keeps it, with zeros behind it.
@@ -172,7 +172,7 @@ pub fn read(text: &[u8]) -> Reading
             let q = find(line, p, TAB);
             let field = &line[p..q];
             if f == 1 {
-                if !table::right_name(field) {
+                if !rules::right_name(field) {
                     break 'lines refused(Refusal::BadName(number));
                 }
                 let name = name_bytes(field);
@@ -289,7 +289,7 @@ fn text_len(table: Table) -> usize
 pub fn write(table: Table, out: &mut [u8]) -> Written
     ensures { λ r. ⌜ (r ≡ written table (now (out .entry))) × (now (out .exit) ≡ writtenInto table (now (out .entry))) ⌝ }
 {
-    if !table.well_formed() {
+    if !rules::well_formed(table) {
         return Written::Refused(Refusal::BadTable);
     }
     if out.len() < text_len(table) {

@@ -65,7 +65,7 @@ fn table_a() -> Table {
 // Prints a line: what the value is, and whether it is right.
 fn say(what: &[u8], t: Table) {
     io::write_all(STDOUT_FILENO, what);
-    if t.well_formed() {
+    if rules::well_formed(t) {
         io::write_all(STDOUT_FILENO, b"\tright\n");
     } else {
         io::write_all(STDOUT_FILENO, b"\t20\n");

@@ -7,6 +7,7 @@ use native.Mathlib.Decide.{decLt}
 use borrow.Author.Needs.{needs}
 use lib.ListN.{length, getD, set, length-set}
 use lib.Seq.{getD-set-same, getD-set-other}
+use Rattle.table.specs.Limits.{mostRows}
 use Rattle.table.specs.Value.{noValue}
 use Rattle.table.specs.declared.Row.{Row as RowValue}
 use Rattle.table.specs.Paper.{parts, work}
@@ -18,12 +19,12 @@ use Rattle.figures.proofs.above_of.Tie as tie
 
 -- the rows below i stand in the arrays
 record Stored (rows : List RowValue) (i : ℕ) (periods works : List ℕ) : Type 0 where
-  periods-size : length periods ≡ 16
-  works-size : length works ≡ 16
+  periods-size : length periods ≡ mostRows
+  works-size : length works ≡ mostRows
   period : (j : ℕ) → j < i → getD periods j 0 ≡ rowsOf rows j .period
   work-is : (j : ℕ) → j < i → getD works j 0 ≡ work (parts (rowsOf rows j .times))
 
-store : (rows : List RowValue) (i : ℕ) (periods works : List ℕ) (p w : ℕ) → Stored rows i periods works → i < 16 → p ≡ rowsOf rows i .period
+store : (rows : List RowValue) (i : ℕ) (periods works : List ℕ) (p w : ℕ) → Stored rows i periods works → i < mostRows → p ≡ rowsOf rows i .period
     → w ≡ work (parts (rowsOf rows i .times)) → Stored rows (i + 1) (set periods i p) (set works i w)
 store rows i periods works p w s h ep ew =
     record {
@@ -41,7 +42,7 @@ store rows i periods works p w s h ep ew =
     two j l (yes b) = getD-set-other works i j w 0 (λ z. omega (arith, z)) ∙ s .work-is j b
     two j l (no b) = let z : j ≡ i = omega arith in rw z (getD-set-same works i w 0 (omega (arith, s .works-size)) ∙ ew)
 
-taken : (rows : List RowValue) (k : ℕ) (periods works : List ℕ) → k ≤ 16 → ((i : ℕ) → i < k → Kept (getD rows i noValue)) → Stored rows k periods works → Taken rows k periods works
+taken : (rows : List RowValue) (k : ℕ) (periods works : List ℕ) → k ≤ mostRows → ((i : ℕ) → i < k → Kept (getD rows i noValue)) → Stored rows k periods works → Taken rows k periods works
 taken rows k periods works few kept s =
     record {
       modest = record {

@@ -7,6 +7,7 @@ use native.Mathlib.Nat.{mul-le-mul, mul-le-mul-right}
 use native.Mathlib.Omega.{arith}
 use borrow.Author.Needs.{needs}
 use lib.ListN.{length, getD, set, length-set}
+use Rattle.table.specs.Limits.{mostRows}
 use Rattle.figures.specs.Work.{safeNumber, rowsFrom, Modest}
 use Rattle.figures.proofs.Counting.{Halfway, halfway-start, halfway-end, halfway-most, halfway-held, more-few, halfway-passed, demand-safe}
 use Rattle.figures.proofs.demand_at.Statement.{statement}
@@ -27,13 +28,13 @@ module _ (periods works until : List ℕ) (k t i total : ℕ) (m : Modest k peri
   period-fits : more * getD periods i 0 ≤ safeNumber * safeNumber
   period-fits = mul-le-mul few (m .period-safe i below)
 
-  next : length until ≡ 16 → Halfway (rowsFrom periods works) k t (i + 1) (total + more * getD works i 0) (set until i (getD until i 0 + more * getD periods i 0))
+  next : length until ≡ mostRows → Halfway (rowsFrom periods works) k t (i + 1) (total + more * getD works i 0) (set until i (getD until i 0 + more * getD periods i 0))
   next size =
       let e : getD works i 0 + 0 ≡ getD works i 0 = omega arith in
       halfway-passed (rowsFrom periods works) k t i total until (m .period-some) w below passed more refl (total + more * getD works i 0)
       (getD until i 0 + more * getD periods i 0) (ap (λ n. total + more * n) (sym e)) refl (omega (arith, m .few))
 
-  total-fits : length until ≡ 16 → total + more * getD works i 0 ≤ 16 * (safeNumber * safeNumber)
+  total-fits : length until ≡ mostRows → total + more * getD works i 0 ≤ mostRows * (safeNumber * safeNumber)
   total-fits size =
       omega (
         arith,
@@ -43,7 +44,7 @@ module _ (periods works until : List ℕ) (k t i total : ℕ) (m : Modest k peri
       )
 
 abbrev Inv-loop : tie.InvT-loop
-Inv-loop periods works k t sum until₀ total₀ i₀ until total i = Modest k periods works × (t ≤ safeNumber) × (length until ≡ 16) × Halfway (rowsFrom periods works) k t i total until
+Inv-loop periods works k t sum until₀ total₀ i₀ until total i = Modest k periods works × (t ≤ safeNumber) × (length until ≡ mostRows) × Halfway (rowsFrom periods works) k t i total until
 
 abbrev μ-loop : tie.MeasureT-loop
 μ-loop periods works k t sum until₀ total₀ i₀ until total i = k - i

@@ -5,6 +5,8 @@ use Prim.Native.Nat.{_+_, _-_, _≤_}
 use native.Mathlib.Omega.{arith}
 use borrow.Author.Needs.{needs}
 use lib.ListN.{length, drop, length-map}
+use Rattle.figures.specs.Work.{safeNumber}
+use Rattle.table.specs.Limits.{mostTimes}
 use Rattle.words.specs.Lists.{sum as Sum}
 use Rattle.words.proofs.Lists.{sum-at, sum-end}
 use Rattle.table.specs.Value.{ticks}
@@ -14,17 +16,17 @@ use Rattle.figures.proofs.own_of.Statement.{statement}
 use Rattle.figures.proofs.own_of.Tie as tie
 
 abbrev Inv-loop : tie.InvT-loop
-Inv-loop times sum₀ i₀ sum i = (i ≤ 7) × (length (map ticks times) ≡ 7) × (Sum (map ticks times) ≤ 60000000) × (sum + Sum (drop i (map ticks times)) ≡ Sum (map ticks times))
+Inv-loop times sum₀ i₀ sum i = (i ≤ mostTimes) × (length (map ticks times) ≡ mostTimes) × (Sum (map ticks times) ≤ safeNumber) × (sum + Sum (drop i (map ticks times)) ≡ Sum (map ticks times))
 
 abbrev μ-loop : tie.MeasureT-loop
-μ-loop times sum₀ i₀ sum i = 7 - i
+μ-loop times sum₀ i₀ sum i = mostTimes - i
 
 loop-holds : tie.Need-loop-holds Inv-loop μ-loop
 loop-holds c =
     let s = c .before in
     let ts = s .args .row .times in
-    let l : length ts ≡ 7 = sym (length-map ts _) ∙ s .good .0 .1 .1 .1 .1 .1 .0 .1 .0 .1 in
-    (search needs, times-length ts 7 l, omega (arith, sum-safe (s .args .row) (s .pre), deadline-safe (s .args .row) (s .pre)), omega arith)
+    let l : length ts ≡ mostTimes = sym (length-map ts _) ∙ s .good .0 .1 .1 .1 .1 .1 .0 .1 .0 .1 in
+    (search needs, times-length ts mostTimes l, omega (arith, sum-safe (s .args .row) (s .pre), deadline-safe (s .args .row) (s .pre)), omega arith)
 
 mul-time : tie.Need-mul-time Inv-loop μ-loop
 mul-time c = search needs

@@ -6,6 +6,7 @@ use native.Mathlib.Omega.{arith}
 use native.Mathlib.Nat.{mul-le-mul-right}
 use borrow.Author.Needs.{needs}
 use lib.ListN.{length}
+use Rattle.table.specs.Limits.{mostRows}
 use Rattle.figures.specs.Figures.{demand, right, result, rounds}
 use Rattle.figures.specs.Answers.{figureOf}
 use Rattle.figures.specs.Work.{safeNumber, rowsFrom, Modest, Counted}
@@ -20,11 +21,11 @@ right-mono : (k c : ℕ) (periods works : List ℕ) → Modest k periods works �
 right-mono k c periods works m s t le = omega (arith, demand-mono (rowsFrom periods works) k (m .period-some) s t le)
 
 -- it stays within 64 bits
-right-safe : (k c t : ℕ) (periods works : List ℕ) → Modest k periods works → t ≤ safeNumber → demand (rowsFrom periods works) k t ≤ 16 * (safeNumber * safeNumber)
+right-safe : (k c t : ℕ) (periods works : List ℕ) → Modest k periods works → t ≤ safeNumber → demand (rowsFrom periods works) k t ≤ mostRows * (safeNumber * safeNumber)
 right-safe k c t periods works m s = omega (arith, demand-safe k k t periods works m (omega arith) s, mul-le-mul-right (safeNumber * safeNumber) (m .few))
 
 abbrev Inv-loop : tie.InvT-loop
-Inv-loop k c d periods works until₀ sum₀ t₀ rounds₀ until sum t rounds = (length until ≡ 16) × Counted (rowsFrom periods works) k t sum until × Going (right (rowsFrom periods works) k c) d c t rounds
+Inv-loop k c d periods works until₀ sum₀ t₀ rounds₀ until sum t rounds = (length until ≡ mostRows) × Counted (rowsFrom periods works) k t sum until × Going (right (rowsFrom periods works) k c) d c t rounds
 
 abbrev μ-loop : tie.MeasureT-loop
 μ-loop k c d periods works until₀ sum₀ t₀ rounds₀ until sum t rounds = d - t

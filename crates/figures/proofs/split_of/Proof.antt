@@ -6,6 +6,7 @@ use Prim.Native.Nat.{ℕ, zero, suc, _+_, _-_, _*_, _≤_, _<_}
 use native.Mathlib.Omega.{arith}
 use borrow.Author.Needs.{needs}
 use lib.ListN.{length, getD}
+use Rattle.table.specs.Limits.{mostTimes}
 use Rattle.words.specs.Lists.{sum as Sum, upTo}
 use Rattle.words.proofs.Lists.{all-each}
 use Rattle.table.specs.Paper.{rightNumber, parts}
@@ -33,7 +34,7 @@ num above k d c = rounds (right (rowsFrom (above .periods) (above .works)) k c) 
 -- a row whose stretches may be worked out one by one
 record Fit (v : RowValue) : Type 0 where
   each : (j : ℕ) → j < length (rowOf v .times) → (1 ≤ getD (rowOf v .times) j 0) × (getD (rowOf v .times) j 0 ≤ v .deadline .0)
-  few : length (rowOf v .times) ≤ 7
+  few : length (rowOf v .times) ≤ mostTimes
   safe : v .deadline .0 ≤ safeNumber
 
 fit : (v : RowValue) → Kept v → Fit v

@@ -1,4 +1,5 @@
 -- `table_figures` meets its contract: the rows passed have their answers, and the verdict is that of the rows passed.
+use Rattle.table.specs.Limits.{mostRows}
 use Rattle.words.specs.Lists.{below}
 use native.Mathlib.Numerals.{add-one}
 use Prim.Native.Nat.{suc, ℕ, _-_, _≤_}
@@ -31,22 +32,22 @@ slotAt rows k = slotOf (RowIs (figuresOf rows k))
 
 -- all rows have their answers
 table-done : (v : TableValue) (n : ℕ) → wellFormed v ≡ true → n ≡ v .len
-    → record { verdict = verdictOf (rowsOf (v .rows)) n; rows = filled (slotAt (rowsOf (v .rows))) (slotOf (Refused NoSuchRow)) 16 n } ≡ tableFigures v
+    → record { verdict = verdictOf (rowsOf (v .rows)) n; rows = filled (slotAt (rowsOf (v .rows))) (slotOf (Refused NoSuchRow)) mostRows n } ≡ tableFigures v
 unfolding tableFigures slotsOf
 table-done v n ok e =
     let t = tableOf v in
     let k : n ≡ length t = e ∙ len-is v ok in
     let a : verdictOf (rowsOf (v .rows)) n ≡ tableVerdict t = ap (λ (rows : ℕ → Row). verdictOf rows n) (rows-same v ok) ∙ verdict-whole t n k in
-    let b : filled (slotAt (rowsOf (v .rows))) (slotOf (Refused NoSuchRow)) 16 n ≡ filled (slotAt (rowAt t)) (slotOf (Refused NoSuchRow)) 16 (length t)
-    = ap (λ (rows : ℕ → Row). filled (slotAt rows) (slotOf (Refused NoSuchRow)) 16 n) (rows-same v ok)
-    ∙ ap (filled (slotAt (rowAt t)) (slotOf (Refused NoSuchRow)) 16) k in
-    let p : _≡_ {A = TableFigures} (record { verdict = verdictOf (rowsOf (v .rows)) n; rows = filled (slotAt (rowsOf (v .rows))) (slotOf (Refused NoSuchRow)) 16 n })
-    (record { verdict = tableVerdict t; rows = filled (slotAt (rowAt t)) (slotOf (Refused NoSuchRow)) 16 (length t) })
+    let b : filled (slotAt (rowsOf (v .rows))) (slotOf (Refused NoSuchRow)) mostRows n ≡ filled (slotAt (rowAt t)) (slotOf (Refused NoSuchRow)) mostRows (length t)
+    = ap (λ (rows : ℕ → Row). filled (slotAt rows) (slotOf (Refused NoSuchRow)) mostRows n) (rows-same v ok)
+    ∙ ap (filled (slotAt (rowAt t)) (slotOf (Refused NoSuchRow)) mostRows) k in
+    let p : _≡_ {A = TableFigures} (record { verdict = verdictOf (rowsOf (v .rows)) n; rows = filled (slotAt (rowsOf (v .rows))) (slotOf (Refused NoSuchRow)) mostRows n })
+    (record { verdict = tableVerdict t; rows = filled (slotAt (rowAt t)) (slotOf (Refused NoSuchRow)) mostRows (length t) })
     = λ i. record { verdict = a i; rows = b i } in
     p ∙ sym (if-true _ _ ok)
 
 abbrev Inv-loop : tie.InvT-loop
-Inv-loop rows len slots₀ verdict₀ k₀ slots verdict k = (k ≤ len) × (verdict ≡ verdictOf (rowsOf rows) k) × (slots ≡ filled (slotAt (rowsOf rows)) (slotOf (Refused NoSuchRow)) 16 k)
+Inv-loop rows len slots₀ verdict₀ k₀ slots verdict k = (k ≤ len) × (verdict ≡ verdictOf (rowsOf rows) k) × (slots ≡ filled (slotAt (rowsOf rows)) (slotOf (Refused NoSuchRow)) mostRows k)
 
 abbrev μ-loop : tie.MeasureT-loop
 μ-loop rows len slots₀ verdict₀ k₀ slots verdict k = len - k
@@ -104,7 +105,7 @@ loop-again c =
       search needs,
       v ∙ ap (verdictOf rows) (sym (add-one (l .k))),
       ap (λ xs. set xs (l .k) (slotOf (RowIs (c .before .figures-at .result)))) (l .inv .2)
-          ∙ fill-next (slotAt rows) (slotOf (Refused NoSuchRow)) (slotOf (RowIs (c .before .figures-at .result))) 16 (l .k)
+          ∙ fill-next (slotAt rows) (slotOf (Refused NoSuchRow)) (slotOf (RowIs (c .before .figures-at .result))) mostRows (l .k)
           (omega (arith, len-most (s .args .t) ok, c .before .before .loop-test .taken)) (ap (λ x. slotOf (RowIs x)) f),
     )
 
@@ -114,7 +115,7 @@ returns-2 c =
     let l = c .before .loop in
     let ok = sym (c .before .before .before .well-formed .ensures) ∙ not-false _ (c .before .before .if1 .left) in
     let e : _≡_ {A = TableFigures} (record { verdict = l .verdict; rows = l .slots })
-    (record { verdict = verdictOf (rowsOf (s .args .t .rows)) (l .k); rows = filled (slotAt (rowsOf (s .args .t .rows))) (slotOf (Refused NoSuchRow)) 16 (l .k) })
+    (record { verdict = verdictOf (rowsOf (s .args .t .rows)) (l .k); rows = filled (slotAt (rowsOf (s .args .t .rows))) (slotOf (Refused NoSuchRow)) mostRows (l .k) })
     = λ i. record { verdict = l .inv .1 i; rows = l .inv .2 i } in
     e ∙ table-done (s .args .t) (l .k) ok (omega (arith, l .inv .0, c .loop-test .left))
 

@@ -23,8 +23,8 @@ abbrev μ-loop : tie.MeasureT-loop
 μ-loop t plan₀ i₀ plan i = mostRows - i
 
 -- the table has 16 rows
-rows-16 : (s : tie.Start Inv-loop μ-loop) → length (s .args .t1 .rows) ≡ mostRows
-rows-16 s = sym (length-map (s .args .t1 .rows) _) ∙ s .good .0 .1 .1 .0 .1 .0 .1
+rows-length : (s : tie.Start Inv-loop μ-loop) → length (s .args .t1 .rows) ≡ mostRows
+rows-length s = sym (length-map (s .args .t1 .rows) _) ∙ s .good .0 .1 .1 .0 .1 .0 .1
 
 loop-holds : tie.Need-loop-holds Inv-loop μ-loop
 loop-holds c = (omega arith, refl, refl)
@@ -56,12 +56,12 @@ loop-again c =
     let z = c .before .before .before .before in (
       search needs,
       length-set (l .plan) (l .i) _ ∙ l .inv .1,
-      filled-next laneOf noLane (z .args .t1 .rows) mostRows (l .i) noValue (l .plan) (c .lane-of .result) (omega (arith, rows-16 z)) (omega arith) (l .inv .2) (c .lane-of .ensures),
+      filled-next laneOf noLane (z .args .t1 .rows) mostRows (l .i) noValue (l .plan) (c .lane-of .result) (omega (arith, rows-length z)) (omega arith) (l .inv .2) (c .lane-of .ensures),
     )
 
 returns : tie.Need-returns Inv-loop μ-loop
 unfolding planOf
-returns c = let l = c .before .loop in filled-all laneOf noLane (c .before .before .args .t1 .rows) mostRows (l .i) (l .plan) (rows-16 (c .before .before)) (omega arith) (l .inv .2)
+returns c = let l = c .before .loop in filled-all laneOf noLane (c .before .before .args .t1 .rows) mostRows (l .i) (l .plan) (rows-length (c .before .before)) (omega arith) (l .inv .2)
 
 pub plan-of-spec : {M : Type 1} → statement M
 plan-of-spec =

@@ -5,6 +5,7 @@ use Prim.Native.Nat.{_-_, _≤_}
 use native.Mathlib.Omega.{arith}
 use borrow.Author.Needs.{needs}
 use lib.ListN.{length, getD, take, drop}
+use Rattle.table.specs.Limits.{mostRows}
 use Rattle.words.specs.Lists.{same}
 use Rattle.words.proofs.Choice.{or-true, or-false}
 use Rattle.table.specs.Value.{noValue, nameIn}
@@ -13,14 +14,14 @@ use Rattle.table.proofs.named.Statement.{statement}
 use Rattle.table.proofs.named.Tie as tie
 
 abbrev Inv-loop : tie.InvT-loop
-Inv-loop n name rows i₀ i = (i ≤ n) × (length rows ≡ 16) × (nameIn name (take n rows) ≡ nameIn name (drop i (take n rows)))
+Inv-loop n name rows i₀ i = (i ≤ n) × (length rows ≡ mostRows) × (nameIn name (take n rows) ≡ nameIn name (drop i (take n rows)))
 
 abbrev μ-loop : tie.MeasureT-loop
 μ-loop n name rows i₀ i = n - i
 
 loop-holds : tie.Need-loop-holds Inv-loop μ-loop
 loop-holds c =
-    let l : length (c .args .t1) ≡ 16 = c .good .0 .1 .0 .1 in
+    let l : length (c .args .t1) ≡ mostRows = c .good .0 .1 .0 .1 in
     (search needs, l, refl)
 
 mul-row : tie.Need-mul-row Inv-loop μ-loop

@@ -5,6 +5,7 @@ use native.Mathlib.Omega.{arith}
 use borrow.Author.Needs.{needs}
 use borrow.Author.Tests.{eq-eqb, ne-eqb}
 use lib.ListN.{length, drop}
+use Rattle.table.specs.Limits.{longestName}
 use Rattle.words.specs.Lists.{same}
 use Rattle.words.proofs.Choice.{and-true, and-false}
 use Rattle.words.proofs.Lists.{same-at, same-end}
@@ -12,15 +13,15 @@ use Rattle.table.proofs.same_name.Statement.{statement}
 use Rattle.table.proofs.same_name.Tie as tie
 
 abbrev Inv-loop : tie.InvT-loop
-Inv-loop a b i₀ i = (i ≤ 12) × (length a ≡ 12) × (length b ≡ 12) × (same a b ≡ same (drop i a) (drop i b))
+Inv-loop a b i₀ i = (i ≤ longestName) × (length a ≡ longestName) × (length b ≡ longestName) × (same a b ≡ same (drop i a) (drop i b))
 
 abbrev μ-loop : tie.MeasureT-loop
-μ-loop a b i₀ i = 12 - i
+μ-loop a b i₀ i = longestName - i
 
 loop-holds : tie.Need-loop-holds Inv-loop μ-loop
 loop-holds c =
-    let p : length (c .args .t1) ≡ 12 = c .good .0 .1 .0 .1 in
-    let q : length (c .args .t2) ≡ 12 = c .good .1 .0 .1 .0 .1 in
+    let p : length (c .args .t1) ≡ longestName = c .good .0 .1 .0 .1 in
+    let q : length (c .args .t2) ≡ longestName = c .good .1 .0 .1 .0 .1 in
     (search needs, p, q, refl)
 
 array-read-if1 : tie.Need-array-read-if1 Inv-loop μ-loop

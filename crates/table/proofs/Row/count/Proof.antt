@@ -1,4 +1,5 @@
 -- `Row::count` meets its contract: the times passed so far and those up to the next zero are all times.
+use Rattle.table.specs.Limits.{mostTimes}
 use Rattle.table.proofs.Rows.{time-at, times-length}
 use mathlib.Core.Path.{_≡_, sym, _∙_}
 use mathlib.Core.List.{map}
@@ -13,16 +14,16 @@ use Rattle.table.proofs.Row.count.Statement.{statement}
 use Rattle.table.proofs.Row.count.Tie as tie
 
 abbrev Inv-loop : tie.InvT-loop
-Inv-loop times count₀ count = (count ≤ 7) × (length (map ticks times) ≡ 7) × (count + length (upTo 0 (drop count (map ticks times))) ≡ length (upTo 0 (map ticks times)))
+Inv-loop times count₀ count = (count ≤ mostTimes) × (length (map ticks times) ≡ mostTimes) × (count + length (upTo 0 (drop count (map ticks times))) ≡ length (upTo 0 (map ticks times)))
 
 abbrev μ-loop : tie.MeasureT-loop
-μ-loop times count₀ count = 7 - count
+μ-loop times count₀ count = mostTimes - count
 
 loop-holds : tie.Need-loop-holds Inv-loop μ-loop
 loop-holds c =
     let ts = c .before .args .self .times in
-    let l : length ts ≡ 7 = sym (length-map ts _) ∙ c .before .good .0 .1 .1 .1 .1 .1 .0 .1 .0 .1 in
-    (search needs, times-length ts 7 l, omega arith)
+    let l : length ts ≡ mostTimes = sym (length-map ts _) ∙ c .before .good .0 .1 .1 .1 .1 .1 .0 .1 .0 .1 in
+    (search needs, times-length ts mostTimes l, omega arith)
 
 mul-if1 : tie.Need-mul-if1 Inv-loop μ-loop
 mul-if1 c = search needs

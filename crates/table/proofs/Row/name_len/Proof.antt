@@ -4,20 +4,21 @@ use Prim.Native.Nat.{_+_, _-_, _≤_}
 use native.Mathlib.Omega.{arith}
 use borrow.Author.Needs.{needs}
 use lib.ListN.{length, drop}
+use Rattle.table.specs.Limits.{longestName}
 use Rattle.words.specs.Lists.{upTo}
 use Rattle.words.proofs.Lists.{upTo-at, upTo-here, upTo-end}
 use Rattle.table.proofs.Row.name_len.Statement.{statement}
 use Rattle.table.proofs.Row.name_len.Tie as tie
 
 abbrev Inv-loop : tie.InvT-loop
-Inv-loop name len₀ len = (len ≤ 12) × (length name ≡ 12) × (len + length (upTo 0 (drop len name)) ≡ length (upTo 0 name))
+Inv-loop name len₀ len = (len ≤ longestName) × (length name ≡ longestName) × (len + length (upTo 0 (drop len name)) ≡ length (upTo 0 name))
 
 abbrev μ-loop : tie.MeasureT-loop
-μ-loop name len₀ len = 12 - len
+μ-loop name len₀ len = longestName - len
 
 loop-holds : tie.Need-loop-holds Inv-loop μ-loop
 loop-holds c =
-    let l : length (c .before .args .self .name) ≡ 12 = search needs in
+    let l : length (c .before .args .self .name) ≡ longestName = search needs in
     (search needs, l, omega arith)
 
 array-read-if1 : tie.Need-array-read-if1 Inv-loop μ-loop

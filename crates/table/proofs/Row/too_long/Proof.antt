@@ -1,4 +1,5 @@
 -- `Row::too_long` meets its contract: what is left of D falls short of the times that are left exactly where D falls short of all of them.
+use Rattle.table.specs.Limits.{mostTimes}
 use Rattle.table.proofs.Rows.{time-at, times-length}
 use mathlib.Core.Path.{_≡_, refl, sym, _∙_}
 use mathlib.Core.List.{map}
@@ -14,16 +15,16 @@ use Rattle.table.proofs.Row.too_long.Statement.{statement}
 use Rattle.table.proofs.Row.too_long.Tie as tie
 
 abbrev Inv-loop : tie.InvT-loop
-Inv-loop times left₀ i₀ left i = (i ≤ 7) × (length (map ticks times) ≡ 7) × (left + sum (map ticks times) ≡ left₀ + sum (drop i (map ticks times)))
+Inv-loop times left₀ i₀ left i = (i ≤ mostTimes) × (length (map ticks times) ≡ mostTimes) × (left + sum (map ticks times) ≡ left₀ + sum (drop i (map ticks times)))
 
 abbrev μ-loop : tie.MeasureT-loop
-μ-loop times left₀ i₀ left i = 7 - i
+μ-loop times left₀ i₀ left i = mostTimes - i
 
 loop-holds : tie.Need-loop-holds Inv-loop μ-loop
 loop-holds c =
     let ts = c .before .args .self .times in
-    let l : length ts ≡ 7 = sym (length-map ts _) ∙ c .before .good .0 .1 .1 .1 .1 .1 .0 .1 .0 .1 in
-    (search needs, times-length ts 7 l, refl)
+    let l : length ts ≡ mostTimes = sym (length-map ts _) ∙ c .before .good .0 .1 .1 .1 .1 .1 .0 .1 .0 .1 in
+    (search needs, times-length ts mostTimes l, refl)
 
 mul-time : tie.Need-mul-time Inv-loop μ-loop
 mul-time c = search needs

@@ -3,6 +3,7 @@ use mathlib.Core.Path.{_≡_, sym, ap, _∙_}
 use native.Mathlib.Omega.{arith}
 use lib.ListN.{length, take, length-map}
 use lib.Seq.{take-all}
+use Rattle.table.specs.Limits.{mostRows}
 use Rattle.table.specs.Value.{nameIn}
 use borrow.Author.Needs.{needs}
 use Rattle.table.proofs.Table.has.Statement.{statement}
@@ -14,8 +15,8 @@ named-requires c κs = search needs
 returns : tie.Need-returns
 returns c =
     let a = c .before .before .before .args in
-    let l : length (a .self .rows) ≡ 16 = sym (length-map (a .self .rows) _) ∙ c .before .before .before .good .0 .1 .1 .0 .1 .0 .1 in
-    let p : take 16 (a .self .rows) ≡ a .self .rows = take-all 16 (a .self .rows) (omega arith) in
+    let l : length (a .self .rows) ≡ mostRows = sym (length-map (a .self .rows) _) ∙ c .before .before .before .good .0 .1 .1 .0 .1 .0 .1 in
+    let p : take mostRows (a .self .rows) ≡ a .self .rows = take-all mostRows (a .self .rows) (omega arith) in
     let q : take (a .self .len) (a .self .rows) ≡ a .self .rows = take-all (a .self .len) (a .self .rows) (omega (arith, c .before .if1 .taken)) in
     c .named .ensures ∙ ap (nameIn (a .name)) (p ∙ sym q)
 

@@ -1,0 +1,3 @@
+mod Names
+mod Rows
+mod Tests
