@@ -2,9 +2,9 @@
 use mathlib.Core.Path.{_≡_, refl}
 use mathlib.Core.Bool.{true, false}
 use mathlib.Core.List.{List, [], _∷_}
-use Prim.Native.Nat.{ℕ, _%_, _≤_, _<_}
+use Prim.Native.Nat.{ℕ, zero, suc, _+_, _%_, _≤_, _<_}
 use native.Mathlib.Omega.{arith}
-use lib.ListN.{length}
+use lib.ListN.{length, drop, getD, drop-of-length-le}
 use borrow.Author.Tests.{eqb-true, ltb-true, ltb-false}
 use Rattle.words.specs.Lists.{sum, all}
 use Rattle.words.proofs.Choice.{and-parts}
@@ -32,6 +32,20 @@ parts-some : (times : List ℕ) → length times % 2 ≡ 1 → all rightNumber t
 unfolding all
 parts-some [] e h = absurd (omega arith)
 parts-some (c ∷ l) e h = omega (arith, number-some c (and-parts h .0))
+
+work-behind : (l : List ℕ) → work (behind l) ≡ work (parts (drop 1 l))
+work-behind [] = refl
+work-behind (s ∷ []) = refl
+work-behind (s ∷ c ∷ l) = refl
+
+-- all C from a stretch on: its own, and those from the next one on
+pub work-at : (times : List ℕ) (j : ℕ) → j < length times → work (parts (drop j times)) ≡ getD times j 0 + work (parts (drop (j + 2) times))
+work-at [] j h = absurd (omega arith)
+work-at (c ∷ l) zero h = omega (arith, work-behind l)
+work-at (c ∷ l) (suc j) h = let e : suc j + 2 ≡ suc (j + 2) = omega arith in rw e (work-at l j (omega arith))
+
+pub work-end : (times : List ℕ) (j : ℕ) → length times ≤ j → work (parts (drop j times)) ≡ 0
+work-end times j h = rw (drop-of-length-le times h) refl
 
 -- what the figures need of a row
 pub record Sane (r : Row) : Type 0 where

@@ -11,8 +11,9 @@ use Rattle.words.proofs.Lists.{take-upTo}
 use Rattle.table.specs.Paper.{Row, Part, part, behind, parts, work}
 use Rattle.table.specs.Value.{ticks, rowOf}
 use Rattle.table.specs.declared.Row.{Row as RowValue}
+use Rattle.figures.proofs.Values.{time-used}
 use Rattle.figures.specs.Figures.{arrivals, demand, right, result, rounds, plus, splitFrom, unlessNone, splitRounds}
-use Rattle.figures.specs.Answers.{figureOf, numberOf}
+use Rattle.figures.specs.Answers.{figureOf, numberIn}
 use Rattle.figures.specs.Work.{rowsFrom, rowsOf, Modest, Taken}
 use Rattle.figures.proofs.Arrivals.{arrivals-same}
 use Rattle.figures.proofs.Recurrence.{demand-mono, result-some, rounds-few}
@@ -48,7 +49,7 @@ module _ (k : ℕ) (periods works : List ℕ) (m : Modest k periods works) (c d 
   worked-few = omega (arith, rounds-few f d mono c some-c fits (λ t. omega arith))
 
 -- a figure and its number
-pub figure-back : (o : Option ℕ) → numberOf (figureOf o) ≡ o
+pub figure-back : (o : Option ℕ) → numberIn (figureOf o) ≡ o
 figure-back none = refl
 figure-back (some n) = refl
 
@@ -154,12 +155,9 @@ module _ (res : ℕ → Option ℕ) (num : ℕ → ℕ) (ts : List ℕ) where
         )
 
 -- the time at place j, in the value and on paper
-pub time-used : (v : RowValue) (j : ℕ) → j < length (rowOf v .times) → getD (map ticks (v .times)) j 0 ≡ getD (rowOf v .times) j 0
-time-used v j h = sym (getD-take (length (rowOf v .times)) (map ticks (v .times)) j 0 h) ∙ ap (λ (l : List ℕ). getD l j 0) (take-upTo 0 (map ticks (v .times)))
-
 pub before-used : (v : RowValue) (j : ℕ) → j < length (rowOf v .times) → getD (0 ∷ map ticks (v .times)) j 0 ≡ getD (0 ∷ rowOf v .times) j 0
 before-used v zero h = refl
-before-used v (suc j) h = time-used v j (omega arith)
+before-used v (suc j) h = time-used (v .times) j (omega arith)
 
 -- each time is at most all of them
 pub time-sum : (xs : List ℕ) (j : ℕ) → getD xs j 0 ≤ sum xs

@@ -7,6 +7,7 @@ use lib.Dec.{leb}
 use lib.ListN.{length, replicate}
 use Rattle.words.specs.Choice.{if_then_else_, _and_}
 use Rattle.words.specs.Lists.{all, any, below}
+use Rattle.refusals.specs.declared.Refusal.{Refusal}
 use Rattle.refusals.specs.declared.Refusal.the-variants.{BadTable, NoSuchRow}
 use Rattle.table.specs.Limits.{mostRows}
 use Rattle.table.specs.Paper.{Row, Table, rowAt, Part, parts}
@@ -30,10 +31,10 @@ abbrev pub figureOf : Option ℕ → Figure
 figureOf none = No
 figureOf (some n) = Is (long n)
 
--- and back
-abbrev pub numberOf : Figure → Option ℕ
-numberOf No = none
-numberOf (Is l) = some (l .0)
+-- and back: the number in a figure
+abbrev pub numberIn : Figure → Option ℕ
+numberIn No = none
+numberIn (Is l) = some (l .0)
 
 -- a row with one C has no split
 abbrev pub splitShown : List Part → Option ℕ → Option ℕ
@@ -95,8 +96,12 @@ slotOf a = record { answer = a }
 unfoldable pub slots : Table → List Slot
 slots t = map (λ k. slotOf (RowIs (figuresOf (rowAt t) k))) (below (length t)) ++ replicate (mostRows - length t) (slotOf (Refused NoSuchRow))
 
+-- a refusal holds no figures
+abbrev pub refusedFigures : Refusal → TableFigures
+refusedFigures why = record { verdict = TableRefused why; rows = replicate mostRows (slotOf (Refused why)) }
+
 -- 20, else the table's verdict and the answer about each row
 unfoldable pub tableFigures : TableValue → TableFigures
 tableFigures v =
     if wellFormed v then record { verdict = tableVerdict (tableOf v); rows = slots (tableOf v) }
-    else record { verdict = TableRefused BadTable; rows = replicate mostRows (slotOf (Refused BadTable)) }
+    else refusedFigures BadTable

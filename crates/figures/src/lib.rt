@@ -7,7 +7,7 @@ ghost use Rattle.table.specs.Limits.{mostRows, mostTimes};
 ghost use Rattle.table.specs.Paper.{parts, work};
 ghost use Rattle.table.specs.Value.{ticks, rowOf, noValue};
 ghost use Rattle.figures.specs.Figures.{right, own, atMost, single, lesser};
-ghost use Rattle.figures.specs.Answers.{figureOf, numberOf, figuresOf, rowAnswer, joinedOf, tableFigures};
+ghost use Rattle.figures.specs.Answers.{figureOf, numberIn, figuresOf, rowAnswer, joinedOf, tableFigures};
 ghost use Rattle.figures.specs.Work.{safeNumber, workedOf, splitWorked, rowsFrom, rowsOf, Modest, Counted, CountedAt, Taken, Kept};
 use refusals::Refusal;
 use table::Row;
@@ -78,16 +78,21 @@ struct Above {
     works: [u64; Table::ROWS],
 }
 
-// All C of a row.
+// All C of a row: every other of its times.
 fn work_of(row: Row) -> u64
     requires { ⌜ Kept row ⌝ }
     ensures { λ r. ⌜ r ≡ work (parts (rowOf row .times)) ⌝ }
 {
-    let a = row.times[0];
-    let b = row.times[2];
-    let c = row.times[4];
-    let d = row.times[6];
-    a.0 + b.0 + c.0 + d.0
+    let times = row.times;
+    let count = row.count();
+    let mut sum: u64 = 0;
+    let mut j: usize = 0;
+    while j < count {
+        let stretch = times[j];
+        sum += stretch.0;
+        j += 2;
+    }
+    sum
 }
 
 fn above_of(rows: [Row; Table::ROWS], k: usize) -> Above
@@ -207,7 +212,7 @@ fn split_of(above: Above, rows: [Row; Table::ROWS], k: usize) -> Worked
 
 // A bound above D is no figure.
 fn at_most(d: u64, bound: Figure) -> Figure
-    ensures { λ r. ⌜ r ≡ figureOf (atMost d (numberOf bound)) ⌝ }
+    ensures { λ r. ⌜ r ≡ figureOf (atMost d (numberIn bound)) ⌝ }
 {
     match bound {
         Figure::No => Figure::No,
@@ -217,7 +222,7 @@ fn at_most(d: u64, bound: Figure) -> Figure
 
 // The verdict of a row with one C.
 fn single_verdict(whole: Figure) -> Verdict
-    ensures { λ r. ⌜ r ≡ single (numberOf whole) ⌝ }
+    ensures { λ r. ⌜ r ≡ single (numberIn whole) ⌝ }
 {
     match whole {
         Figure::No => Verdict::Misses,
@@ -227,7 +232,7 @@ fn single_verdict(whole: Figure) -> Verdict
 
 // The verdict of a waiting row.
 fn lesser_verdict(whole: Figure, split: Figure) -> Verdict
-    ensures { λ r. ⌜ r ≡ lesser (numberOf whole) (numberOf split) ⌝ }
+    ensures { λ r. ⌜ r ≡ lesser (numberIn whole) (numberIn split) ⌝ }
 {
     match whole {
         Figure::No => match split {

@@ -33,7 +33,6 @@ use Rattle.kernel.specs.declared.First.the-variants.{At}
 use Rattle.figures.specs.declared.RowFigures.{RowFigures}
 use Rattle.figures.specs.Figures.{verdict}
 use Rattle.figures.specs.Answers.{rowAnswer, figuresOf, tableFigures}
-use Rattle.figures.specs.declared.TableFigures.{TableFigures}
 use Rattle.report.specs.Report.{reportText, answerTo, answerText, reported, reportedInto}
 use Rattle.report.proofs.Fits.{answer-fits}
 use Rattle.figures.specs.declared.Answer.the-variants.{Row as RowIs}
@@ -58,7 +57,7 @@ unfolding written writtenInto reported reportedInto rowAnswer tableFigures fullR
 demand-1-table v e = (
   (λ d. (if-false _ _ e, if-false _ _ e, if-false _ _ e, if-false _ _ e)),
   (λ n. (if-false _ _ e, if-false _ _ e)),
-  ap (λ (f : TableFigures). f .verdict) (if-false _ _ e),
+  if-false _ _ e,
 )
 
 -- where there is no room for bytes that were to be put into a buffer, it stays as it was

@@ -26,8 +26,7 @@ use Rattle.figures.specs.declared.RowFigures.{RowFigures}
 use Rattle.figures.specs.declared.Verdict.the-variants.{Fits, Misses, Open}
 use Rattle.figures.specs.declared.Answer.the-variants.{Row as RowIs, Refused as NoFigures}
 use Rattle.figures.specs.Figures.{right, own, whole, split}
-use Rattle.figures.specs.declared.TableVerdict.the-variants.{Refused as NoVerdict}
-use Rattle.figures.specs.Answers.{rowAnswer, tableFigures}
+use Rattle.figures.specs.Answers.{rowAnswer, refusedFigures, tableFigures}
 use Rattle.refused.specs.Refused.{refusedLine}
 use Rattle.report.specs.Report.{reportText, answerText, reported, reportedInto, longestReport}
 use Rattle.kernel.specs.declared.First.{First}
@@ -46,7 +45,7 @@ abbrev pub RefusedTable : Type 0
 RefusedTable = (v : TableValue) → wellFormed v ≡ false
     → ((d : List ℕ) → (written v d ≡ NotWritten BadTable) × (writtenInto v d ≡ d) × (reported v d ≡ NotWritten BadTable) × (reportedInto v d ≡ d))
     × ((n : ℕ) → (rowAnswer v n ≡ NoFigures BadTable) × (fullRun v n ≡ refusedRun BadTable))
-    × (tableFigures v .verdict ≡ NoVerdict BadTable)
+    × (tableFigures v ≡ refusedFigures BadTable)
 
 -- a buffer that is too short stays as it was
 abbrev pub ShortBuffer : Type 0

@@ -11,7 +11,7 @@ use Rattle.table.specs.Paper.{Row, parts, rightRow, waits}
 use Rattle.table.specs.Value.{noValue}
 use Rattle.table.specs.declared.Row.{Row as RowValue}
 use Rattle.figures.specs.Figures.{right, rounds, own, whole, split, atMost, splitFrom, single, lesser, judge, withSplit, splitRounds}
-use Rattle.figures.specs.Answers.{figureOf, numberOf, splitShown, figuresOf}
+use Rattle.figures.specs.Answers.{figureOf, numberIn, splitShown, figuresOf}
 use Rattle.figures.specs.Work.{workedOf, rowsFrom, rowsOf, Taken}
 use Rattle.figures.specs.declared.RowFigures.{RowFigures}
 use Rattle.figures.specs.declared.Worked.{Worked}
@@ -96,7 +96,7 @@ returns c =
     let k = s .pre .1 (a .k) (omega arith) in
     let w = whole-worked (a .t1) (a .k) _ _ (c .before .before .before .before .before .before .above-of .ensures) (c .before .before .before .solve .result) (c .before .before .before .before .own-of .result) (c .before .before .before .before .own-of .ensures) (c .before .before .before .solve .ensures) in
     let n = sym (c .before .before .waits .ensures) ∙ not-true _ (c .before .if1 .taken) in
-    let v = c .single-verdict .ensures ∙ ap (λ f. single (numberOf f)) (w .0) ∙ ap single (figure-back (whole (rowsOf (a .t1)) (a .k))) in
+    let v = c .single-verdict .ensures ∙ ap (λ f. single (numberIn f)) (w .0) ∙ ap single (figure-back (whole (rowsOf (a .t1)) (a .k))) in
     let e : _≡_ {A = RowFigures} (record { verdict = c .single-verdict .result; whole = c .before .before .before .solve .result .figure; split = figureOf none; rounds = c .before .before .before .solve .result .rounds })
     (record { verdict = single (whole (rowsOf (a .t1)) (a .k)); whole = figureOf (whole (rowsOf (a .t1)) (a .k)); split = figureOf none; rounds = wholeRounds (rowsOf (a .t1)) (a .k) })
     = λ i. record { verdict = v i; whole = w .0 i; split = figureOf none; rounds = w .1 i } in
@@ -130,10 +130,10 @@ returns-2 c =
     let w = whole-worked (a .t1) (a .k) _ _ (c .before .before .before .before .before .before .before .before .before .before .above-of .ensures) (c .before .before .before .before .before .before .before .solve .result) (c .before .before .before .before .before .before .before .before .own-of .result) (c .before .before .before .before .before .before .before .before .own-of .ensures) (c .before .before .before .before .before .before .before .solve .ensures) in
     let p = c .before .before .before .before .split-of .ensures .0 in
     let n = sym (c .before .before .before .before .before .before .waits .ensures) ∙ not-false _ (c .before .before .before .before .before .if1 .left) in
-    let q = c .before .before .before .at-most .ensures ∙ ap (λ (x : Worked). figureOf (atMost (rows (a .k) .deadline) (numberOf (x .figure)))) p
+    let q = c .before .before .before .at-most .ensures ∙ ap (λ (x : Worked). figureOf (atMost (rows (a .k) .deadline) (numberIn (x .figure)))) p
     ∙ ap (λ o. figureOf (atMost (rows (a .k) .deadline) o)) (figure-back (splitFrom rows (a .k) (parts (rows (a .k) .times)))) in
-    let v = c .before .before .lesser-verdict .ensures ∙ ap (λ f. lesser (numberOf f) (numberOf (c .before .before .before .at-most .result))) (w .0) ∙ ap (λ f. lesser (numberOf (figureOf (whole rows (a .k)))) (numberOf f)) q
-    ∙ ap (λ o. lesser o (numberOf (figureOf (split rows (a .k))))) (figure-back (whole rows (a .k))) ∙ ap (lesser (whole rows (a .k))) (figure-back (split rows (a .k))) in
+    let v = c .before .before .lesser-verdict .ensures ∙ ap (λ f. lesser (numberIn f) (numberIn (c .before .before .before .at-most .result))) (w .0) ∙ ap (λ f. lesser (numberIn (figureOf (whole rows (a .k)))) (numberIn f)) q
+    ∙ ap (λ o. lesser o (numberIn (figureOf (split rows (a .k))))) (figure-back (whole rows (a .k))) ∙ ap (lesser (whole rows (a .k))) (figure-back (split rows (a .k))) in
     let m = ap (λ x. x + c .before .before .before .before .split-of .result .rounds) (w .1) ∙ ap (λ (x : Worked). wholeRounds rows (a .k) + x .rounds) p in
     let e : _≡_ {A = RowFigures} (record { verdict = c .before .before .lesser-verdict .result; whole = c .before .before .before .before .before .before .before .solve .result .figure; split = c .before .before .before .at-most .result; rounds = c .before .before .before .before .before .before .before .solve .result .rounds + c .before .before .before .before .split-of .result .rounds })
     (record {

@@ -15,12 +15,12 @@ use Rattle.table.specs.declared.Row.{Row as RowValue}
 use Rattle.table.proofs.Rows.{time-at}
 use Rattle.table.proofs.Rules.{row-times, row-sum, row-count, number-range, count-most}
 use Rattle.figures.specs.Figures.{right, result, rounds}
-use Rattle.figures.specs.Answers.{figureOf, numberOf}
+use Rattle.figures.specs.Answers.{figureOf, numberIn}
 use Rattle.figures.specs.Work.{safeNumber, workedOf, splitWorked, rowsFrom, rowsOf, Taken, Kept}
 use Rattle.figures.specs.declared.Above.{Above}
 use Rattle.figures.specs.declared.Worked.{Worked}
-use Rattle.figures.proofs.Values.{deadline-safe}
-use Rattle.figures.proofs.Split.{right-same, worked-fits, worked-few, figure-back, splitBy, roundsBy, split-by, rounds-by, Parted, parted-start, parted-none, parted-some, parted-end, time-used, before-used, time-sum}
+use Rattle.figures.proofs.Values.{deadline-safe, time-used}
+use Rattle.figures.proofs.Split.{right-same, worked-fits, worked-few, figure-back, splitBy, roundsBy, split-by, rounds-by, Parted, parted-start, parted-none, parted-some, parted-end, before-used, time-sum}
 use Rattle.figures.proofs.split_of.Statement.{statement}
 use Rattle.figures.proofs.split_of.Tie as tie
 
@@ -61,7 +61,7 @@ module _ (above : Above) (rows : List RowValue) (k : ℕ) (t : Taken rows k (abo
 
   -- the stretch at place j
   stretch-is : (j : ℕ) → j < length ts → getD (v .times) j (record { 0 = 0 }) .0 ≡ getD ts j 0
-  stretch-is j h = sym (time-at (v .times) j) ∙ time-used v j h
+  stretch-is j h = sym (time-at (v .times) j) ∙ time-used (v .times) j h
 
   stretch-fits : (j : ℕ) → j < length ts → (1 ≤ getD (v .times) j (record { 0 = 0 }) .0) × (getD (v .times) j (record { 0 = 0 }) .0 ≤ d)
   stretch-fits j h =
@@ -72,11 +72,11 @@ module _ (above : Above) (rows : List RowValue) (k : ℕ) (t : Taken rows k (abo
   -- what is worked out for it
   solved : (w : Worked) (j : ℕ) → j < length ts
       → w ≡ workedOf (right (rowsFrom (above .periods) (above .works)) k (getD (v .times) j (record { 0 = 0 }) .0)) d (getD (v .times) j (record { 0 = 0 }) .0)
-      → (numberOf (w .figure) ≡ res above k d (getD ts j 0)) × (w .rounds ≡ num above k d (getD ts j 0))
+      → (numberIn (w .figure) ≡ res above k d (getD ts j 0)) × (w .rounds ≡ num above k d (getD ts j 0))
   solved w j h e =
       let f : w ≡ workedOf (right (rowsFrom (above .periods) (above .works)) k (getD ts j 0)) d (getD ts j 0)
       = e ∙ ap (λ c. workedOf (right (rowsFrom (above .periods) (above .works)) k c) d c) (stretch-is j h) in
-      (ap (λ (x : Worked). numberOf (x .figure)) f ∙ figure-back (res above k d (getD ts j 0)), ap (λ (x : Worked). x .rounds) f)
+      (ap (λ (x : Worked). numberIn (x .figure)) f ∙ figure-back (res above k d (getD ts j 0)), ap (λ (x : Worked). x .rounds) f)
 
   few-rounds : (j : ℕ) → j < length ts → num above k d (getD ts j 0) ≤ safeNumber
   few-rounds j h =
@@ -161,7 +161,7 @@ returns c =
     let l = c .before .before .before .before .before .before .loop in
     let h : l .j < length (rowOf (getD (a .t2) (a .k) noValue) .times) = omega (arith, c .before .before .before .before .before .loop-test .taken, c .before .before .before .before .before .before .before .count .ensures) in
     let w = solved (a .above) (a .t2) (a .k) (s .pre .1) (s .pre .2) (c .before .before .before .solve .result) (l .j) h (c .before .before .before .solve .ensures) in
-    let e = parted-none _ _ (rowOf (getD (a .t2) (a .k) noValue) .times) (l .j) (l .sum) (l .rounds) (l .inv .3) h (sym (w .0) ∙ ap numberOf (c .enum-told .given .1)) in (
+    let e = parted-none _ _ (rowOf (getD (a .t2) (a .k) noValue) .times) (l .j) (l .sum) (l .rounds) (l .inv .3) h (sym (w .0) ∙ ap numberIn (c .enum-told .given .1)) in (
       finish (a .above) (a .t2) (a .k) (s .pre .1) (s .pre .2) none (l .rounds + c .before .before .before .solve .result .rounds) (e .0) (e .1 ∙ ap (λ n. l .rounds + n) (sym (w .1))),
       omega (arith, w .1, few-rounds (a .above) (a .t2) (a .k) (s .pre .1) (s .pre .2) (l .j) h, l .inv .2, fit _ (s .pre .2) .few),
     )
@@ -181,7 +181,7 @@ add-sum c =
     let l = c .before .before .before .before .before .before .before .before .before .loop in
     let h : l .j < length (rowOf (getD (a .t2) (a .k) noValue) .times) = omega (arith, c .before .before .before .before .before .before .before .before .loop-test .taken, c .before .before .before .before .before .before .before .before .before .before .count .ensures) in
     let w = solved (a .above) (a .t2) (a .k) (s .pre .1) (s .pre .2) (c .before .before .before .before .before .before .solve .result) (l .j) h (c .before .before .before .before .before .before .solve .ensures) in
-    let r = small-result (a .above) (a .t2) (a .k) (s .pre .1) (s .pre .2) (l .j) (c .before .before .before .figure .given .0 .0 .0) h (sym (w .0) ∙ ap numberOf (c .before .before .before .figure .given .1)) in
+    let r = small-result (a .above) (a .t2) (a .k) (s .pre .1) (s .pre .2) (l .j) (c .before .before .before .figure .given .0 .0 .0) h (sym (w .0) ∙ ap numberIn (c .before .before .before .figure .given .1)) in
     omega (arith, r, c .before .suspension .ensures, small-wait (a .above) (a .t2) (a .k) (s .pre .1) (s .pre .2) (l .j) h)
 
 add-sum-2 : tie.Need-add-sum-2 Inv-loop μ-loop
@@ -191,7 +191,7 @@ add-sum-2 c =
     let l = c .before .before .before .before .before .before .before .before .before .loop in
     let h : l .j < length (rowOf (getD (a .t2) (a .k) noValue) .times) = omega (arith, c .before .before .before .before .before .before .before .before .loop-test .taken, c .before .before .before .before .before .before .before .before .before .before .count .ensures) in
     let w = solved (a .above) (a .t2) (a .k) (s .pre .1) (s .pre .2) (c .before .before .before .before .before .before .solve .result) (l .j) h (c .before .before .before .before .before .before .solve .ensures) in
-    let r = small-result (a .above) (a .t2) (a .k) (s .pre .1) (s .pre .2) (l .j) (c .before .before .before .figure .given .0 .0 .0) h (sym (w .0) ∙ ap numberOf (c .before .before .before .figure .given .1)) in
+    let r = small-result (a .above) (a .t2) (a .k) (s .pre .1) (s .pre .2) (l .j) (c .before .before .before .figure .given .0 .0 .0) h (sym (w .0) ∙ ap numberIn (c .before .before .before .figure .given .1)) in
     omega (arith, r, c .before .suspension .ensures, small-wait (a .above) (a .t2) (a .k) (s .pre .1) (s .pre .2) (l .j) h, l .inv .1, fit _ (s .pre .2) .few)
 
 add-j : tie.Need-add-j Inv-loop μ-loop
@@ -209,7 +209,7 @@ loop-again c =
     let l = c .before .before .before .before .before .before .before .before .before .loop in
     let h : l .j < length (rowOf (getD (a .t2) (a .k) noValue) .times) = omega (arith, c .before .before .before .before .before .before .before .before .loop-test .taken, c .before .before .before .before .before .before .before .before .before .before .count .ensures) in
     let w = solved (a .above) (a .t2) (a .k) (s .pre .1) (s .pre .2) (c .before .before .before .before .before .before .solve .result) (l .j) h (c .before .before .before .before .before .before .solve .ensures) in
-    let x : res (a .above) (a .k) _ (getD (rowOf (getD (a .t2) (a .k) noValue) .times) (l .j) 0) ≡ some (c .before .before .before .figure .given .0 .0 .0) = sym (w .0) ∙ ap numberOf (c .before .before .before .figure .given .1) in
+    let x : res (a .above) (a .k) _ (getD (rowOf (getD (a .t2) (a .k) noValue) .times) (l .j) 0) ≡ some (c .before .before .before .figure .given .0 .0 .0) = sym (w .0) ∙ ap numberIn (c .before .before .before .figure .given .1) in
     let r = small-result (a .above) (a .t2) (a .k) (s .pre .1) (s .pre .2) (l .j) (c .before .before .before .figure .given .0 .0 .0) h x in
     let q = c .before .suspension .ensures ∙ before-used (getD (a .t2) (a .k) noValue) (l .j) h in
     let p = parted-some _ _ (rowOf (getD (a .t2) (a .k) noValue) .times) (l .j) (l .sum) (l .rounds) (l .inv .3) h (c .before .before .before .figure .given .0 .0 .0) x in (
