@@ -13,9 +13,9 @@ use Rattle.words.proofs.Choice.{and-parts}
 use Rattle.table.specs.Limits.{mostStretches}
 use Rattle.table.specs.Paper.{Row, Part, part, behind, parts, rightNumber, rightRow}
 use Rattle.table.proofs.Rules.{row-count, row-times, row-sum, count-most}
-use Rattle.figures.specs.declared.Bound.{Bound}
-use Rattle.figures.specs.declared.Bound.the-variants.{Whole, Split}
-use Rattle.figures.specs.declared.Verdict.the-variants.{Fits}
+use Rattle.verdicts.specs.declared.Bound.{Bound}
+use Rattle.verdicts.specs.declared.Bound.the-variants.{Whole, Split}
+use Rattle.verdicts.specs.declared.Verdict.the-variants.{Fits}
 use Rattle.figures.specs.Figures.{right, result, rounds, own, whole, split, verdict, unlessNone, splitRounds, withSplit, rowRounds}
 use Rattle.figures.specs.Answers.{splitShown}
 use Rattle.figures.proofs.Rows.{sane, number-some}

@@ -5,15 +5,15 @@ use mathlib.Core.Option.{Option, none, some}
 use Prim.Native.Nat.{ℕ, zero, suc, _+_, _*_, _≤_, _<_}
 use native.Mathlib.Omega.{arith}
 use lib.ListN.{length, getD, drop, length-drop}
-use lib.Seq.{drop-cons, getD-take}
-use Rattle.words.specs.Lists.{sum, all}
-use Rattle.words.proofs.Lists.{take-upTo}
+use lib.Seq.{drop-cons}
+use Rattle.words.specs.Lists.{sum}
 use Rattle.table.specs.Paper.{Row, Part, part, behind, parts, work}
-use Rattle.table.specs.Value.{ticks, rowOf}
+use Rattle.table.specs.Value.{rowOf}
+use Rattle.ticks.specs.Ticks.{ticks}
+use Rattle.verdicts.specs.Verdicts.{figureOf, numberIn}
 use Rattle.table.specs.declared.Row.{Row as RowValue}
 use Rattle.figures.proofs.Values.{time-used}
 use Rattle.figures.specs.Figures.{arrivals, demand, right, result, rounds, plus, splitFrom, unlessNone, splitRounds}
-use Rattle.figures.specs.Answers.{figureOf, numberIn}
 use Rattle.figures.specs.Work.{rowsFrom, rowsOf, Modest, Taken}
 use Rattle.figures.proofs.Arrivals.{arrivals-same}
 use Rattle.figures.proofs.Recurrence.{demand-mono, result-some, rounds-few}

@@ -12,12 +12,13 @@ use Rattle.table.specs.Paper.{Row, Table, rowAt, rightRow}
 use Rattle.table.specs.Value.{noValue, rowValue, tableOf, wellFormed}
 use Rattle.table.specs.declared.Table.{Table as TableValue}
 use Rattle.table.proofs.Used.{row-is, value-is, row-right}
-use Rattle.figures.specs.declared.Verdict.{Verdict}
-use Rattle.figures.specs.declared.Verdict.the-variants.{Fits, Misses, Open}
-use Rattle.figures.specs.declared.TableVerdict.{TableVerdict}
-use Rattle.figures.specs.declared.TableVerdict.the-variants.{Fits as TableFits, Misses as TableMisses, Open as TableOpen}
+use Rattle.verdicts.specs.declared.Verdict.{Verdict}
+use Rattle.verdicts.specs.declared.Verdict.the-variants.{Fits, Misses, Open}
+use Rattle.verdicts.specs.declared.TableVerdict.{TableVerdict}
+use Rattle.verdicts.specs.declared.TableVerdict.the-variants.{Fits as TableFits, Misses as TableMisses, Open as TableOpen}
 use Rattle.figures.specs.Figures.{verdict}
-use Rattle.figures.specs.Answers.{fits, misses, verdicts, tableVerdict, joinedOf}
+use Rattle.figures.specs.Answers.{verdicts, tableVerdict}
+use Rattle.verdicts.specs.Verdicts.{fits, misses, joinedOf}
 use Rattle.figures.specs.Work.{rowsOf, Kept}
 
 module _ (v : TableValue) (ok : wellFormed v ≡ true) where

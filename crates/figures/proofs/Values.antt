@@ -10,9 +10,9 @@ use Rattle.words.specs.Lists.{sum, padded, upTo}
 use Rattle.words.proofs.Lists.{sum-padded, take-upTo}
 use Rattle.table.specs.Limits.{mostTimes}
 use Rattle.table.specs.Paper.{parts, work}
-use Rattle.table.specs.Value.{ticks, long, rowOf}
+use Rattle.table.specs.Value.{rowOf}
+use Rattle.ticks.specs.Ticks.{ticks}
 use Rattle.table.specs.declared.Row.{Row as RowValue}
-use Rattle.table.proofs.Rows.{time-at}
 use Rattle.table.proofs.Rules.{ticks-long, row-sum, row-period, row-deadline, number-range}
 use Rattle.figures.specs.Figures.{own}
 use Rattle.figures.specs.Work.{Kept, safeNumber}

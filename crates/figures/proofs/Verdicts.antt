@@ -12,11 +12,12 @@ use Rattle.ticks.specs.declared.Length.{Length}
 use Rattle.words.specs.Choice.{if_then_else_}
 use Rattle.words.proofs.Choice.{if-true}
 use Rattle.table.specs.Paper.{Row, Part, parts, rightRow, waits}
-use Rattle.table.specs.Value.{long}
-use Rattle.figures.specs.declared.Bound.{Bound}
-use Rattle.figures.specs.declared.Bound.the-variants.{Whole, Split}
-use Rattle.figures.specs.declared.Verdict.the-variants.{Fits, Misses, Open}
-use Rattle.figures.specs.Figures.{right, result, rounds, own, whole, split, splitFrom, atMost, single, lesser, judge, verdict, withSplit, rowRounds, splitRounds}
+use Rattle.ticks.specs.Ticks.{long}
+use Rattle.verdicts.specs.Verdicts.{atMost, single, lesser}
+use Rattle.verdicts.specs.declared.Bound.{Bound}
+use Rattle.verdicts.specs.declared.Bound.the-variants.{Whole, Split}
+use Rattle.verdicts.specs.declared.Verdict.the-variants.{Fits, Misses, Open}
+use Rattle.figures.specs.Figures.{right, result, rounds, own, whole, split, splitFrom, judge, verdict, withSplit, rowRounds, splitRounds}
 use Rattle.figures.proofs.Recurrence.{Least, NoneUpTo, result-some, result-none, rounds-few, demand-mono}
 use Rattle.figures.proofs.Rows.{Sane, sane, one-time, more-times}
 

@@ -1,40 +1,27 @@
 -- The library's answers about figures, as values.
-use mathlib.Core.Bool.{Bool, true, false}
 use mathlib.Core.List.{List, [], _∷_, _++_, map}
-use mathlib.Core.Option.{Option, none, some}
+use mathlib.Core.Option.{Option, none}
 use Prim.Native.Nat.{ℕ, _-_}
 use lib.Dec.{leb}
 use lib.ListN.{length, replicate}
 use Rattle.words.specs.Choice.{if_then_else_, _and_}
-use Rattle.words.specs.Lists.{all, any, below}
+use Rattle.words.specs.Lists.{below}
 use Rattle.refusals.specs.declared.Refusal.{Refusal}
 use Rattle.refusals.specs.declared.Refusal.the-variants.{BadTable, NoSuchRow}
 use Rattle.table.specs.Limits.{mostRows}
 use Rattle.table.specs.Paper.{Row, Table, rowAt, Part, parts}
-use Rattle.table.specs.Value.{long, tableOf, wellFormed}
+use Rattle.table.specs.Value.{tableOf, wellFormed}
 use Rattle.table.specs.declared.Table.{Table as TableValue}
-use Rattle.figures.specs.declared.Figure.{Figure}
-use Rattle.figures.specs.declared.Figure.the-variants.{Is, No}
-use Rattle.figures.specs.declared.Verdict.{Verdict}
-use Rattle.figures.specs.declared.Verdict.the-variants.{Fits, Misses, Open}
+use Rattle.verdicts.specs.Verdicts.{figureOf, overall}
+use Rattle.verdicts.specs.declared.Verdict.{Verdict}
+use Rattle.verdicts.specs.declared.TableVerdict.{TableVerdict}
+use Rattle.verdicts.specs.declared.TableVerdict.the-variants.{Refused as TableRefused}
 use Rattle.figures.specs.declared.RowFigures.{RowFigures}
 use Rattle.figures.specs.declared.Answer.{Answer}
 use Rattle.figures.specs.declared.Answer.the-variants.{Row as RowIs, Refused}
-use Rattle.figures.specs.declared.TableVerdict.{TableVerdict}
-use Rattle.figures.specs.declared.TableVerdict.the-variants.{Fits as TableFits, Misses as TableMisses, Open as TableOpen, Refused as TableRefused}
 use Rattle.figures.specs.declared.Slot.{Slot}
 use Rattle.figures.specs.declared.TableFigures.{TableFigures}
 use Rattle.figures.specs.Figures.{whole, split, verdict, rowRounds}
-
--- a figure, where there is one
-abbrev pub figureOf : Option ℕ → Figure
-figureOf none = No
-figureOf (some n) = Is (long n)
-
--- and back: the number in a figure
-abbrev pub numberIn : Figure → Option ℕ
-numberIn No = none
-numberIn (Is l) = some (l .0)
 
 -- a row with one C has no split
 abbrev pub splitShown : List Part → Option ℕ → Option ℕ
@@ -59,34 +46,13 @@ rowAnswer v n =
     then (if leb 1 n and leb n (length (tableOf v)) then RowIs (figuresOf (rowAt (tableOf v)) (n - 1)) else Refused NoSuchRow)
     else Refused BadTable
 
--- the row fits
-abbrev pub fits : Verdict → Bool
-fits (Fits b r) = true
-fits Misses = false
-fits Open = false
-
--- the row misses
-abbrev pub misses : Verdict → Bool
-misses (Fits b r) = false
-misses Misses = true
-misses Open = false
-
 -- the verdicts of all rows
 unfoldable pub verdicts : Table → List Verdict
 verdicts t = map (verdict (rowAt t)) (below (length t))
 
--- the table fits if every row does, misses if some row misses, and is open otherwise
+-- the table's verdict
 unfoldable pub tableVerdict : Table → TableVerdict
-tableVerdict t = if all fits (verdicts t) then TableFits else if any misses (verdicts t) then TableMisses else TableOpen
-
--- the table's verdict with one row more
-abbrev pub joinedOf : TableVerdict → Verdict → TableVerdict
-joinedOf v (Fits b r) = v
-joinedOf v Misses = TableMisses
-joinedOf TableFits Open = TableOpen
-joinedOf TableMisses Open = TableMisses
-joinedOf TableOpen Open = TableOpen
-joinedOf (TableRefused x) Open = TableOpen
+tableVerdict t = overall (verdicts t)
 
 -- an answer, in an array
 abbrev pub slotOf : Answer → Slot

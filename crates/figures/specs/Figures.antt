@@ -3,14 +3,12 @@ use mathlib.Core.Bool.{Bool, true, false}
 use mathlib.Core.List.{List, [], _∷_}
 use mathlib.Core.Option.{Option, none, some}
 use Prim.Native.Nat.{ℕ, zero, suc, _+_, _-_, _*_, _/_}
-use lib.Dec.{eqb, ltb, leb}
+use lib.Dec.{eqb, ltb}
 use lib.ListN.{length}
 use Rattle.words.specs.Choice.{if_then_else_, _or_}
 use Rattle.table.specs.Paper.{Row, Part, part, parts, work, total}
-use Rattle.table.specs.Value.{long}
-use Rattle.figures.specs.declared.Bound.the-variants.{Whole, Split}
-use Rattle.figures.specs.declared.Verdict.{Verdict}
-use Rattle.figures.specs.declared.Verdict.the-variants.{Fits, Misses, Open}
+use Rattle.verdicts.specs.Verdicts.{atMost, single, lesser}
+use Rattle.verdicts.specs.declared.Verdict.{Verdict}
 
 -- ceiling (t / n)
 unfoldable pub ceiling : ℕ → ℕ → ℕ
@@ -79,26 +77,9 @@ abbrev pub splitFrom : (ℕ → Row) → ℕ → List Part → Option ℕ
 splitFrom rows k [] = some 0
 splitFrom rows k (part s c ∷ l) = plus s (result (right rows k c) (rows k .deadline) c) (splitFrom rows k l)
 
--- a bound above D is no figure
-abbrev pub atMost : ℕ → Option ℕ → Option ℕ
-atMost d none = none
-atMost d (some b) = if leb b d then some b else none
-
 -- split
 abbrev pub split : (ℕ → Row) → ℕ → Option ℕ
 split rows k = atMost (rows k .deadline) (splitFrom rows k (parts (rows k .times)))
-
--- a row with one C has only whole
-abbrev pub single : Option ℕ → Verdict
-single none = Misses
-single (some w) = Fits Whole (long w)
-
--- the lesser figure, and whole where they are equal
-abbrev pub lesser : Option ℕ → Option ℕ → Verdict
-lesser none none = Open
-lesser (some w) none = Fits Whole (long w)
-lesser none (some s) = Fits Split (long s)
-lesser (some w) (some s) = if leb w s then Fits Whole (long w) else Fits Split (long s)
 
 -- by the row's stretches: one, or several
 abbrev pub judge : List Part → Option ℕ → Option ℕ → Verdict

@@ -10,7 +10,7 @@ use Rattle.table.specs.Value.{noValue, rowOf, rowValue}
 use Rattle.table.specs.declared.Row.{Row as RowValue}
 use Rattle.figures.specs.declared.Worked.{Worked}
 use Rattle.figures.specs.Figures.{arrivals, demand, result, rounds, splitFrom, splitRounds}
-use Rattle.figures.specs.Answers.{figureOf}
+use Rattle.verdicts.specs.Verdicts.{figureOf}
 
 -- numbers up to this one keep every sum and product of the figures within 64 bits; a table's limit is at most this
 abbrev pub safeNumber : ℕ

@@ -5,33 +5,18 @@ ghost use Prim.Native.Nat.{ℕ, _+_, _-_, _*_, _<_, _≤_};
 ghost use lib.ListN.{length, getD};
 ghost use Rattle.table.specs.Limits.{mostRows, mostTimes};
 ghost use Rattle.table.specs.Paper.{parts, work};
-ghost use Rattle.table.specs.Value.{ticks, rowOf, noValue};
-ghost use Rattle.figures.specs.Figures.{right, own, atMost, single, lesser};
-ghost use Rattle.figures.specs.Answers.{figureOf, numberIn, figuresOf, rowAnswer, joinedOf, tableFigures};
+ghost use Rattle.table.specs.Value.{rowOf, noValue};
+ghost use Rattle.ticks.specs.Ticks.{ticks};
+ghost use Rattle.figures.specs.Figures.{right, own};
+ghost use Rattle.figures.specs.Answers.{figuresOf, rowAnswer, tableFigures};
 ghost use Rattle.figures.specs.Work.{safeNumber, workedOf, splitWorked, rowsFrom, rowsOf, Modest, Counted, CountedAt, Taken, Kept};
 use refusals::Refusal;
 use table::Row;
 use table::Table;
 use ticks::Length;
-
-// A figure, where there is one.
-pub enum Figure {
-    Is(Length),
-    No,
-}
-
-// Which of the two bounds gave a figure.
-pub enum Bound {
-    Whole,
-    Split,
-}
-
-// A row fits with a figure, misses its deadline, or stays open.
-pub enum Verdict {
-    Fits(Bound, Length),
-    Misses,
-    Open,
-}
+use verdicts::Figure;
+use verdicts::TableVerdict;
+use verdicts::Verdict;
 
 // The figures of a row.
 pub struct RowFigures {
@@ -44,14 +29,6 @@ pub struct RowFigures {
 // The answer to a question about a row.
 pub enum Answer {
     Row(RowFigures),
-    Refused(Refusal),
-}
-
-// The table fits if every row does, misses if some row misses, and is open otherwise.
-pub enum TableVerdict {
-    Fits,
-    Misses,
-    Open,
     Refused(Refusal),
 }
 
@@ -210,48 +187,6 @@ fn split_of(above: Above, rows: [Row; Table::ROWS], k: usize) -> Worked
     }
 }
 
-// A bound above D is no figure.
-fn at_most(d: u64, bound: Figure) -> Figure
-    ensures { λ r. ⌜ r ≡ figureOf (atMost d (numberIn bound)) ⌝ }
-{
-    match bound {
-        Figure::No => Figure::No,
-        Figure::Is(b) => { if b.0 <= d { Figure::Is(b) } else { Figure::No } }
-    }
-}
-
-// The verdict of a row with one C.
-fn single_verdict(whole: Figure) -> Verdict
-    ensures { λ r. ⌜ r ≡ single (numberIn whole) ⌝ }
-{
-    match whole {
-        Figure::No => Verdict::Misses,
-        Figure::Is(w) => Verdict::Fits(Bound::Whole, w),
-    }
-}
-
-// The verdict of a waiting row.
-fn lesser_verdict(whole: Figure, split: Figure) -> Verdict
-    ensures { λ r. ⌜ r ≡ lesser (numberIn whole) (numberIn split) ⌝ }
-{
-    match whole {
-        Figure::No => match split {
-            Figure::No => Verdict::Open,
-            Figure::Is(s) => Verdict::Fits(Bound::Split, s),
-        },
-        Figure::Is(w) => match split {
-            Figure::No => Verdict::Fits(Bound::Whole, w),
-            Figure::Is(s) => {
-                if w.0 <= s.0 {
-                    Verdict::Fits(Bound::Whole, w)
-                } else {
-                    Verdict::Fits(Bound::Split, s)
-                }
-            }
-        },
-    }
-}
-
 // All C and S of a row.
 fn own_of(row: Row) -> u64
     requires { ⌜ Kept row ⌝ }
@@ -278,7 +213,7 @@ fn figures_at(rows: [Row; Table::ROWS], k: usize) -> RowFigures
     let worked = solve(above, k, own_of(row), row.deadline.0);
     let whole = worked.figure;
     if !row.waits() {
-        let verdict = single_verdict(whole);
+        let verdict = verdicts::of_one_stretch(whole);
         return RowFigures {
             verdict,
             whole,
@@ -288,8 +223,8 @@ fn figures_at(rows: [Row; Table::ROWS], k: usize) -> RowFigures
     }
     let parted = split_of(above, rows, k);
     let bound = parted.figure;
-    let split = at_most(row.deadline.0, bound);
-    let verdict = lesser_verdict(whole, split);
+    let split = verdicts::at_most(row.deadline, bound);
+    let verdict = verdicts::of_waiting(whole, split);
     RowFigures {
         verdict,
         whole,
@@ -316,22 +251,6 @@ pub fn row_figures(t: Table, number: usize) -> Answer
     Answer::Row(figures)
 }
 
-// The table's verdict with one row more.
-fn joined(table: TableVerdict, row: Verdict) -> TableVerdict
-    ensures { λ r. ⌜ r ≡ joinedOf table row ⌝ }
-{
-    match row {
-        Verdict::Fits(_, _) => table,
-        Verdict::Misses => TableVerdict::Misses,
-        Verdict::Open => match table {
-            TableVerdict::Fits => TableVerdict::Open,
-            TableVerdict::Misses => TableVerdict::Misses,
-            TableVerdict::Open => TableVerdict::Open,
-            TableVerdict::Refused(_) => TableVerdict::Open,
-        },
-    }
-}
-
 // The figures of every row, and the table's verdict.
 pub fn table_figures(t: Table) -> TableFigures
     ensures { λ r. ⌜ r ≡ tableFigures t ⌝ }
@@ -356,7 +275,7 @@ pub fn table_figures(t: Table) -> TableFigures
     while k < len {
         let figures = figures_at(rows, k);
         let judged = figures.verdict;
-        verdict = joined(verdict, judged);
+        verdict = verdicts::joined(verdict, judged);
         let slot = Slot {
             answer: Answer::Row(figures),
         };

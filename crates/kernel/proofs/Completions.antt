@@ -26,7 +26,8 @@ use Rattle.kernel.specs.declared.Cell.{Cell}
 use Rattle.kernel.specs.declared.Machine.{Machine}
 use Rattle.kernel.specs.Rules.{after, full}
 use Rattle.kernel.specs.Run.{firstDone, orElse, completion, slotOf, completions, refusedRun, fullRun}
-use Rattle.kernel.specs.Tick.{instant, planOf, cellOf, cellAt, runs, tickOf, startOf, ticked, runOf}
+use Rattle.kernel.specs.Tick.{planOf, cellOf, cellAt, runs, tickOf, startOf, ticked, runOf}
+use Rattle.ticks.specs.Ticks.{instant}
 use Rattle.kernel.specs.Noted.{slotsOf, notedOf, completionOf, noteOf, firstsAfter, firstAt}
 use Rattle.kernel.specs.Queue.{queueOf, fullJobs, jobsOf, releasedOf}
 use Rattle.words.proofs.Filled.{below-same}

@@ -11,13 +11,12 @@ use lib.Dec.{ltb, leb}
 use lib.ListN.{length, take, drop, getD, set, drop-of-length-le}
 use lib.Seq.{drop-cons, getD-take, length-take-le}
 use Rattle.words.specs.Choice.{if_then_else_}
-use Rattle.ticks.specs.Ticks.{most, laterBy}
+use Rattle.ticks.specs.Ticks.{most, laterBy, long, instant}
 use Rattle.ticks.specs.declared.Instant.{Instant}
 use Rattle.ticks.specs.declared.Length.{Length}
-use Rattle.table.specs.Value.{long}
 use Rattle.kernel.specs.declared.Cell.{Cell}
 use Rattle.kernel.specs.declared.Machine.{Machine}
-use Rattle.kernel.specs.Tick.{instant, servedOf, highest, cellAt, runs, cellsOf, tickOf, ticked}
+use Rattle.kernel.specs.Tick.{servedOf, highest, cellAt, runs, cellsOf, tickOf, ticked}
 use Rattle.kernel.specs.Noted.{notedOf, noteOf, firstsAfter}
 
 -- an instant and a length after it, where the sum has room

@@ -15,10 +15,10 @@ use Rattle.words.specs.Choice.{if_then_else_}
 use Rattle.ticks.specs.declared.Instant.{Instant}
 use Rattle.table.specs.Limits.{mostTimes}
 use Rattle.table.specs.Paper.{Row, Part, part, behind, parts}
-use Rattle.table.specs.Value.{long}
+use Rattle.ticks.specs.Ticks.{long, instant}
 use Rattle.kernel.specs.declared.Cell.{Cell}
 use Rattle.kernel.specs.Rules.{Job, job, spend, keep, serve, ready, arrive, fullRelease}
-use Rattle.kernel.specs.Tick.{instant, cellOf, timeAt, periodOf, endedOf, servedOf}
+use Rattle.kernel.specs.Tick.{cellOf, timeAt, periodOf, endedOf, servedOf}
 use Rattle.kernel.specs.Queue.{leftOf, fullJobs, jobsOf, queueOf}
 
 -- the time at a place of a row, 0 behind the last

@@ -13,7 +13,8 @@ use Rattle.words.proofs.Choice.{and-parts}
 use Rattle.words.proofs.Lists.{all-each, length-padded}
 use Rattle.table.specs.Limits.{mostRows, mostTimes}
 use Rattle.table.specs.Paper.{Row, rowAt, rightNumber, rightCount, rightRow}
-use Rattle.table.specs.Value.{noValue, ticks, long, tableOf, rowValue, wellFormed}
+use Rattle.table.specs.Value.{noValue, tableOf, rowValue, wellFormed}
+use Rattle.ticks.specs.Ticks.{ticks, long}
 use Rattle.table.specs.declared.Table.{Table as TableValue}
 use Rattle.table.proofs.Used.{len-most, rows-length, value-is, row-right}
 use Rattle.table.proofs.Rules.{row-period, row-count, row-times, number-range, count-most}

@@ -13,7 +13,8 @@ use Rattle.table.specs.Value.{tableOf, wellFormed}
 use Rattle.table.specs.declared.Table.{Table as TableValue}
 use Rattle.table.proofs.Rules.{row-period, row-times, number-range}
 use Rattle.table.proofs.Used.{len-most, row-right}
-use Rattle.kernel.specs.Tick.{instant, planOf, cellAt, runOf}
+use Rattle.kernel.specs.Tick.{planOf, cellAt, runOf}
+use Rattle.ticks.specs.Ticks.{instant}
 use Rattle.kernel.specs.Safe.{Fits, Safe, SafeRun}
 use Rattle.kernel.proofs.Plan.{plan-length, planned}
 use Rattle.kernel.proofs.Link.{run-now, stands}

@@ -13,7 +13,8 @@ use Rattle.kernel.specs.declared.Cell.{Cell}
 use Rattle.kernel.specs.declared.Machine.{Machine}
 use Rattle.kernel.specs.declared.Slot.{Slot}
 use Rattle.kernel.specs.Run.{slotOf}
-use Rattle.kernel.specs.Tick.{instant, planOf, cellAt, ticked}
+use Rattle.kernel.specs.Tick.{planOf, cellAt, ticked}
+use Rattle.ticks.specs.Ticks.{instant}
 
 -- what was noted: 0 says that there is no completion yet
 unfoldable pub completionOf : Instant → Option ℕ

@@ -3,12 +3,12 @@ use mathlib.Core.Path.{_≡_}
 use mathlib.Core.List.{List, []}
 use Prim.Native.Nat.{ℕ, _+_, _≤_, _<_}
 use lib.ListN.{length, getD}
-use Rattle.ticks.specs.Ticks.{most}
+use Rattle.ticks.specs.Ticks.{most, instant}
 use Rattle.ticks.specs.declared.Instant.{Instant}
 use Rattle.table.specs.Limits.{mostRows, mostTimes}
 use Rattle.kernel.specs.declared.Cell.{Cell}
 use Rattle.kernel.specs.declared.Machine.{Machine}
-use Rattle.kernel.specs.Tick.{instant, timeAt, periodOf, cellAt, ticked}
+use Rattle.kernel.specs.Tick.{timeAt, periodOf, cellAt, ticked}
 
 -- of a row's cell, where its stretch ends at the instant `end`
 pub record Fits (end : Instant) (lane : List ℕ) (c : Cell) : Type 0 where

@@ -5,17 +5,13 @@ use lib.Dec.{ltb, leb}
 use lib.ListN.{take, getD, set}
 use Rattle.words.specs.Choice.{if_then_else_}
 use Rattle.words.specs.Lists.{isZero}
+use Rattle.ticks.specs.Ticks.{instant, ticks, long}
 use Rattle.ticks.specs.declared.Instant.{Instant}
 use Rattle.table.specs.Limits.{mostTimes}
-use Rattle.table.specs.Value.{ticks, long}
 use Rattle.table.specs.declared.Row.{Row as RowValue}
 use Rattle.table.specs.declared.Table.{Table as TableValue}
 use Rattle.kernel.specs.declared.Cell.{Cell}
 use Rattle.kernel.specs.declared.Machine.{Machine}
-
--- the instant n
-abbrev pub instant : ℕ → Instant
-instant n = record { 0 = n }
 
 -- a row's lane of the plan: its times, two zeros that end them, its period
 abbrev pub laneOf : RowValue → List ℕ

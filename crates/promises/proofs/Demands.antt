@@ -27,8 +27,8 @@ use Rattle.text.proofs.Forth.{text-forth}
 use Rattle.text.proofs.Fits.{text-fits}
 use Rattle.ticks.specs.declared.Length.{Length}
 use Rattle.ticks.specs.declared.Instant.{Instant}
-use Rattle.figures.specs.declared.Bound.{Bound}
-use Rattle.figures.specs.declared.Verdict.the-variants.{Fits}
+use Rattle.verdicts.specs.declared.Bound.{Bound}
+use Rattle.verdicts.specs.declared.Verdict.the-variants.{Fits}
 use Rattle.kernel.specs.declared.First.the-variants.{At}
 use Rattle.figures.specs.declared.RowFigures.{RowFigures}
 use Rattle.figures.specs.Figures.{verdict}

@@ -15,8 +15,8 @@ use Rattle.words.proofs.Choice.{if-true}
 use Rattle.ticks.specs.declared.Length.{Length}
 use Rattle.table.specs.Paper.{Row, Table, rowAt, Part, part, parts, work, total, waits, rightRow, rightTable}
 use Rattle.kernel.specs.Rules.{Job, job, serve, arrive, after, Within, Legal, LegalRun, Complete, fullRelease, full}
-use Rattle.figures.specs.declared.Bound.{Bound}
-use Rattle.figures.specs.declared.Verdict.the-variants.{Fits, Misses}
+use Rattle.verdicts.specs.declared.Bound.{Bound}
+use Rattle.verdicts.specs.declared.Verdict.the-variants.{Fits, Misses}
 use Rattle.figures.specs.Figures.{arrivals, demand, right, own, verdict}
 use Rattle.figures.proofs.Arrivals.{arrivals-zero, arrivals-next}
 use Rattle.figures.proofs.Rows.{sane}

@@ -9,9 +9,9 @@ use lib.ListN.{length}
 use Rattle.ticks.specs.declared.Length.{Length}
 use Rattle.table.specs.Paper.{Row, Table, rowAt, Part, part, parts, total, rightRow, rightTable}
 use Rattle.kernel.specs.Rules.{after, Input, LegalRun, Complete}
-use Rattle.figures.specs.declared.Bound.{Bound}
-use Rattle.figures.specs.declared.Bound.the-variants.{Whole, Split}
-use Rattle.figures.specs.declared.Verdict.the-variants.{Fits}
+use Rattle.verdicts.specs.declared.Bound.{Bound}
+use Rattle.verdicts.specs.declared.Bound.the-variants.{Whole, Split}
+use Rattle.verdicts.specs.declared.Verdict.the-variants.{Fits}
 use Rattle.figures.specs.Figures.{demand, right, result, whole, plus, splitFrom, split, verdict}
 use Rattle.figures.proofs.Rows.{sane}
 use Rattle.figures.proofs.Verdicts.{ofBound, fits-bound, split-some, stretch-fixed, whole-fixed}

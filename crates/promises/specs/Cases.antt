@@ -10,13 +10,13 @@ use Rattle.words.specs.Spelled.{spelled}
 use Rattle.refusals.specs.declared.Refusal.the-variants.{NoText, FieldCount}
 use Rattle.decimal.specs.Decimal.{digits, lastDigits, digit, value, leads, numberOf}
 use Rattle.table.specs.Paper.{Row, Table, rowAt, parts, waits, named, nameByte, rightName, rightNumber, rightCount}
-use Rattle.table.specs.Value.{long}
+use Rattle.ticks.specs.Ticks.{long}
 use Rattle.fields.specs.Fields.{lineFeed, fieldsText, line as lineText, joined}
 use Rattle.text.specs.Split.{lines, fields, onFirst}
 use Rattle.text.specs.Read.{Answer, refused, rightFields, withNumber, readFields, checkRow, readLine, readLines, readText}
-use Rattle.figures.specs.declared.Bound.the-variants.{Whole, Split}
-use Rattle.figures.specs.declared.Verdict.{Verdict}
-use Rattle.figures.specs.declared.Verdict.the-variants.{Fits, Misses, Open}
+use Rattle.verdicts.specs.declared.Bound.the-variants.{Whole, Split}
+use Rattle.verdicts.specs.declared.Verdict.{Verdict}
+use Rattle.verdicts.specs.declared.Verdict.the-variants.{Fits, Misses, Open}
 use Rattle.figures.specs.Figures.{ceiling, arrivals, sequence, whole, splitFrom, split, verdict, rowRounds}
 use Rattle.figures.specs.Answers.{verdicts, tableVerdict}
 use Rattle.report.specs.Report.{rowLine, lastLine, reportText, answerText}

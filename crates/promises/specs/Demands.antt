@@ -15,15 +15,16 @@ use Rattle.refusals.specs.declared.Refusal.{Refusal}
 use Rattle.refusals.specs.declared.Refusal.the-variants.{BadTable, NoRoom}
 use Rattle.table.specs.Limits.{longestText, mostTicks}
 use Rattle.table.specs.Paper.{Table, rowAt, waits}
-use Rattle.table.specs.Value.{long, tableOf, tableValue, emptyTable, wellFormed}
+use Rattle.table.specs.Value.{tableOf, tableValue, emptyTable, wellFormed}
+use Rattle.ticks.specs.Ticks.{long}
 use Rattle.table.specs.declared.Table.{Table as TableValue}
 use Rattle.text.specs.declared.Written.the-variants.{Refused as NotWritten}
 use Rattle.text.specs.Read.{accepted, refused, readText, readingOf}
 use Rattle.text.specs.Write.{tableText, written, writtenInto}
-use Rattle.figures.specs.declared.Bound.{Bound}
-use Rattle.figures.specs.declared.Bound.the-variants.{Whole, Split}
+use Rattle.verdicts.specs.declared.Bound.{Bound}
+use Rattle.verdicts.specs.declared.Bound.the-variants.{Whole, Split}
 use Rattle.figures.specs.declared.RowFigures.{RowFigures}
-use Rattle.figures.specs.declared.Verdict.the-variants.{Fits, Misses, Open}
+use Rattle.verdicts.specs.declared.Verdict.the-variants.{Fits, Misses, Open}
 use Rattle.figures.specs.declared.Answer.the-variants.{Row as RowIs, Refused as NoFigures}
 use Rattle.figures.specs.Figures.{right, own, whole, split}
 use Rattle.figures.specs.Answers.{rowAnswer, refusedFigures, tableFigures}

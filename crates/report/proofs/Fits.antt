@@ -22,13 +22,14 @@ use Rattle.text.specs.Read.{Answer, accepted, refused, readText}
 use Rattle.text.proofs.Back.{text-right}
 use Rattle.text.proofs.Places.{text-place}
 use Rattle.refused.proofs.Fits.{refused-fits}
-use Rattle.figures.specs.declared.Bound.{Bound}
-use Rattle.figures.specs.declared.Verdict.{Verdict}
-use Rattle.figures.specs.declared.Verdict.the-variants.{Fits, Misses, Open}
-use Rattle.figures.specs.declared.TableVerdict.{TableVerdict}
-use Rattle.figures.specs.declared.TableVerdict.the-variants.{Fits as TableFits, Misses as TableMisses, Open as TableOpen, Refused as TableRefused}
+use Rattle.verdicts.specs.declared.Bound.{Bound}
+use Rattle.verdicts.specs.declared.Verdict.{Verdict}
+use Rattle.verdicts.specs.declared.Verdict.the-variants.{Fits, Misses, Open}
+use Rattle.verdicts.specs.declared.TableVerdict.{TableVerdict}
+use Rattle.verdicts.specs.declared.TableVerdict.the-variants.{Fits as TableFits, Misses as TableMisses, Open as TableOpen, Refused as TableRefused}
 use Rattle.figures.specs.Figures.{whole, split, verdict, rowRounds}
-use Rattle.figures.specs.Answers.{figureOf, splitShown, figuresOf, tableVerdict}
+use Rattle.figures.specs.Answers.{splitShown, figuresOf, tableVerdict}
+use Rattle.verdicts.specs.Verdicts.{figureOf}
 use Rattle.figures.proofs.Bounds.{whole-most, shown-most, fits-most, rounds-most}
 use Rattle.report.specs.Report.{figureText, verdictWord, figureIn, rowLine, tableWord, lastLine, reportText, answerTo, answerText, longestLine, longestReport}
 

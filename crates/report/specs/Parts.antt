@@ -6,14 +6,15 @@ use Rattle.words.specs.Lists.{below}
 use Rattle.decimal.specs.Decimal.{digits}
 use Rattle.fields.specs.Fields.{fieldsText, joined}
 use Rattle.table.specs.Paper.{Row}
-use Rattle.table.specs.Value.{long, noValue, rowOf}
+use Rattle.table.specs.Value.{noValue, rowOf}
+use Rattle.ticks.specs.Ticks.{long}
 use Rattle.table.specs.declared.Row.{Row as RowValue}
 use Rattle.figures.specs.declared.Answer.{Answer}
 use Rattle.figures.specs.declared.Answer.the-variants.{Row as RowIs, Refused}
-use Rattle.figures.specs.declared.Bound.the-variants.{Whole}
-use Rattle.figures.specs.declared.Figure.the-variants.{Is}
-use Rattle.figures.specs.declared.Verdict.{Verdict}
-use Rattle.figures.specs.declared.Verdict.the-variants.{Fits}
+use Rattle.verdicts.specs.declared.Bound.the-variants.{Whole}
+use Rattle.verdicts.specs.declared.Figure.the-variants.{Is}
+use Rattle.verdicts.specs.declared.Verdict.{Verdict}
+use Rattle.verdicts.specs.declared.Verdict.the-variants.{Fits}
 use Rattle.figures.specs.declared.RowFigures.{RowFigures}
 use Rattle.figures.specs.declared.Slot.{Slot}
 use Rattle.figures.specs.Answers.{slotOf}

@@ -18,13 +18,13 @@ use Rattle.text.specs.declared.Written.the-variants.{Refused}
 use Rattle.text.specs.Read.{Answer, accepted, refused, readText}
 use Rattle.text.specs.Write.{lengthIn}
 use Rattle.refused.specs.Refused.{refusedLine}
-use Rattle.figures.specs.declared.Figure.{Figure}
-use Rattle.figures.specs.declared.Figure.the-variants.{Is, No}
-use Rattle.figures.specs.declared.Verdict.{Verdict}
-use Rattle.figures.specs.declared.Verdict.the-variants.{Fits, Misses, Open}
+use Rattle.verdicts.specs.declared.Figure.{Figure}
+use Rattle.verdicts.specs.declared.Figure.the-variants.{Is, No}
+use Rattle.verdicts.specs.declared.Verdict.{Verdict}
+use Rattle.verdicts.specs.declared.Verdict.the-variants.{Fits, Misses, Open}
 use Rattle.figures.specs.declared.RowFigures.{RowFigures}
-use Rattle.figures.specs.declared.TableVerdict.{TableVerdict}
-use Rattle.figures.specs.declared.TableVerdict.the-variants.{Fits as TableFits, Misses as TableMisses, Open as TableOpen, Refused as TableRefused}
+use Rattle.verdicts.specs.declared.TableVerdict.{TableVerdict}
+use Rattle.verdicts.specs.declared.TableVerdict.the-variants.{Fits as TableFits, Misses as TableMisses, Open as TableOpen, Refused as TableRefused}
 use Rattle.figures.specs.Answers.{figuresOf, tableVerdict}
 
 -- a missing figure is a hyphen

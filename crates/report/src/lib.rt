@@ -13,16 +13,16 @@ ghost use Rattle.report.specs.Report.{figureText, verdictWord, figureIn,
 ghost use Rattle.report.specs.Parts.{judgedText, boundsText, answerLine, linesText};
 use fields::LINE_FEED;
 use figures::Answer;
-use figures::Figure;
 use figures::RowFigures;
 use figures::TableFigures;
-use figures::TableVerdict;
-use figures::Verdict;
 use refusals::Refusal;
 use table::Row;
 use table::Table;
 use text::Outcome;
 use text::Written;
+use verdicts::Figure;
+use verdicts::TableVerdict;
+use verdicts::Verdict;
 
 // The most bytes of an answer to a text: 52 for each row's line, and 13 for the last.
 pub const LONGEST: usize = Table::ROWS * 52 + 13;

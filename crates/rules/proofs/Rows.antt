@@ -15,7 +15,8 @@ use Rattle.words.proofs.Choice.{and-same, not-ltb}
 use Rattle.table.specs.declared.Row.{Row as RowValue}
 use Rattle.table.specs.Limits.{longestName}
 use Rattle.table.specs.Paper.{rightName, rightNumber, rightCount, rightRow}
-use Rattle.table.specs.Value.{noValue, ticks, long, rowOf, nameIn}
+use Rattle.table.specs.Value.{noValue, rowOf, nameIn}
+use Rattle.ticks.specs.Ticks.{ticks, long}
 use Rattle.rules.specs.Tests.{ended, rightValue, waitsValue, rowsTest}
 use Rattle.table.proofs.Rows.{used-row, used-end}
 

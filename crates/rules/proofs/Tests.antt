@@ -15,7 +15,8 @@ use Rattle.table.specs.declared.Row.{Row as RowValue}
 use Rattle.table.specs.declared.Table.{Table as TableValue}
 use Rattle.table.specs.Limits.{mostRows, mostTimes, longestName}
 use Rattle.table.specs.Paper.{Row, Table, rightRow, waits, named, rightRows, rightTable}
-use Rattle.table.specs.Value.{noValue, ticks, long, rowOf, tableOf, rowValue, emptyRow, tableValue, nameIn, wellFormed}
+use Rattle.table.specs.Value.{noValue, rowOf, tableOf, rowValue, emptyRow, tableValue, nameIn, wellFormed}
+use Rattle.ticks.specs.Ticks.{ticks, long}
 use Rattle.rules.specs.Tests.{ended, rightValue, unused, waitsValue, rowsTest}
 use Rattle.table.proofs.Rows.{times-length}
 use Rattle.table.proofs.Rules.{row-name, row-times, name-lacks, times-lack, ticks-long, long-ticks, row-back, values, named-value, value-forth, table-rows, table-size, value-right}

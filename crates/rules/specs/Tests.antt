@@ -8,7 +8,8 @@ use Rattle.words.specs.Choice.{_and_}
 use Rattle.words.specs.Lists.{isZero, all, any, upTo}
 use Rattle.table.specs.declared.Row.{Row as RowValue}
 use Rattle.table.specs.Paper.{rightRow, waits}
-use Rattle.table.specs.Value.{ticks, rowOf, nameIn}
+use Rattle.table.specs.Value.{rowOf, nameIn}
+use Rattle.ticks.specs.Ticks.{ticks}
 
 -- nothing but zeros behind the first zero
 unfoldable pub ended : List ℕ → Bool

@@ -17,7 +17,8 @@ use Rattle.words.proofs.Choice.{and-true}
 use Rattle.table.specs.declared.Row.{Row as RowValue}
 use Rattle.table.specs.Limits.{longestName, largestNumber, mostTimes}
 use Rattle.table.specs.Paper.{rightNumber}
-use Rattle.table.specs.Value.{noValue, ticks, long, rowOf, nameIn}
+use Rattle.table.specs.Value.{noValue, rowOf, nameIn}
+use Rattle.ticks.specs.Ticks.{ticks, long}
 
 -- a row's times as numbers
 

@@ -17,7 +17,8 @@ use Rattle.table.specs.declared.Row.{Row as RowValue}
 use Rattle.table.specs.declared.Table.{Table as TableValue}
 use Rattle.table.specs.Limits.{mostRows, mostTimes, longestName, largestNumber}
 use Rattle.table.specs.Paper.{Row, Table, nameByte, rightName, rightNumber, rightCount, rightRow, named, rightRows, rightTable}
-use Rattle.table.specs.Value.{ticks, long, rowOf, tableOf, rowValue, emptyRow, tableValue, nameIn, sameRow, sameRows, wellFormed}
+use Rattle.table.specs.Value.{rowOf, tableOf, rowValue, emptyRow, tableValue, nameIn, sameRow, sameRows, wellFormed}
+use Rattle.ticks.specs.Ticks.{ticks, long}
 
 -- a row on paper, and what its rules say
 

@@ -4,21 +4,13 @@ use mathlib.Core.List.{List, [], _∷_, _++_, map}
 use Prim.Native.Nat.{ℕ, _-_}
 use lib.Dec.{eqb}
 use lib.ListN.{length, take, replicate}
-use Rattle.ticks.specs.declared.Length.{Length}
+use Rattle.ticks.specs.Ticks.{ticks, long}
 use Rattle.words.specs.Choice.{_and_}
 use Rattle.words.specs.Lists.{any, same, upTo, padded}
 use Rattle.table.specs.declared.Row.{Row as RowValue}
 use Rattle.table.specs.declared.Table.{Table as TableValue}
 use Rattle.table.specs.Limits.{mostRows, mostTimes, longestName}
 use Rattle.table.specs.Paper.{Row, Table, rightTable}
-
--- a length's number of ticks
-abbrev pub ticks : Length → ℕ
-ticks l = l .0
-
--- the length of n ticks
-abbrev pub long : ℕ → Length
-long n = record { 0 = n }
 
 -- the row that a value stands for: its name and its times end at the first zero
 abbrev pub rowOf : RowValue → Row

@@ -8,7 +8,8 @@ ghost use lib.ListN.{length, take};
 ghost use Rattle.words.specs.Lists.{sum, same};
 ghost use Rattle.table.specs.Limits.{mostRows};
 ghost use Rattle.table.specs.Paper.{waits};
-ghost use Rattle.table.specs.Value.{ticks, rowOf, emptyRow, emptyTable, nameIn};
+ghost use Rattle.table.specs.Value.{rowOf, emptyRow, emptyTable, nameIn};
+ghost use Rattle.ticks.specs.Ticks.{ticks};
 use ticks::Length;
 
 pub struct Row {

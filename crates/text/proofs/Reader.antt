@@ -19,7 +19,8 @@ use Rattle.refusals.specs.declared.Refusal.{Refusal}
 use Rattle.refusals.specs.declared.Refusal.the-variants.{ManyLines, AfterWaiting, FieldCount, BadName, BadNumber, LateDeadline, LongTimes, NameTaken}
 use Rattle.table.specs.Limits.{mostRows, mostTimes, longestName, largestNumber}
 use Rattle.table.specs.Paper.{Row, Table, rightName, rightRow, waits, named}
-use Rattle.table.specs.Value.{ticks, rowOf, rowValue, emptyRow, tableOf, tableValue, emptyTable, nameIn}
+use Rattle.table.specs.Value.{rowOf, rowValue, emptyRow, tableOf, tableValue, emptyTable, nameIn}
+use Rattle.ticks.specs.Ticks.{ticks}
 use Rattle.table.proofs.Rules.{name-lacks, count-most}
 use Rattle.fields.specs.Fields.{lineFeed, tab}
 use Rattle.text.specs.Split.{lines, fields}

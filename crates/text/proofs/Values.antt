@@ -20,7 +20,8 @@ use Rattle.table.specs.declared.Row.{Row as RowValue}
 use Rattle.table.specs.declared.Table.{Table as TableValue}
 use Rattle.table.specs.Limits.{mostRows, mostTimes, longestName}
 use Rattle.table.specs.Paper.{Row, Table, rightName, rightRow, named}
-use Rattle.table.specs.Value.{ticks, long, rowOf, rowValue, emptyRow, tableOf, tableValue, nameIn}
+use Rattle.table.specs.Value.{rowOf, rowValue, emptyRow, tableOf, tableValue, nameIn}
+use Rattle.ticks.specs.Ticks.{ticks, long}
 use Rattle.table.proofs.Rules.{ticks-long, named-value}
 use Rattle.text.specs.Read.{fixedFields, withName, withNumber}
 

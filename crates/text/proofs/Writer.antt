@@ -19,7 +19,8 @@ use Rattle.refusals.specs.declared.Refusal.{Refusal}
 use Rattle.refusals.specs.declared.Refusal.the-variants.{BadTable, NoRoom}
 use Rattle.table.specs.Limits.{mostRows, longestText}
 use Rattle.table.specs.Paper.{Row, Table, rightRow}
-use Rattle.table.specs.Value.{noValue, ticks, long, rowOf, tableOf, wellFormed}
+use Rattle.table.specs.Value.{noValue, rowOf, tableOf, wellFormed}
+use Rattle.ticks.specs.Ticks.{ticks, long}
 use Rattle.table.proofs.Rows.{time-at}
 use Rattle.table.proofs.Rules.{value-forth, table-size, table-right}
 use Rattle.fields.specs.Fields.{lineFeed, tab}

@@ -1,7 +1,19 @@
--- The allowed sums of instants and lengths. Each stays within 64 bits: beyond, it is the largest number there.
+-- Instants and lengths, and their allowed sums. Each stays within 64 bits: beyond, it is the largest number there.
 use Prim.Native.Nat.{ℕ, _+_, _-_, min}
 use Rattle.ticks.specs.declared.Instant.{Instant}
 use Rattle.ticks.specs.declared.Length.{Length}
+
+-- the instant n
+abbrev pub instant : ℕ → Instant
+instant n = record { 0 = n }
+
+-- the length of n ticks
+abbrev pub long : ℕ → Length
+long n = record { 0 = n }
+
+-- a length's number of ticks
+abbrev pub ticks : Length → ℕ
+ticks l = l .0
 
 -- the largest number of 64 bits
 abbrev pub most : ℕ

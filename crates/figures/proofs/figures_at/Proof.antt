@@ -10,8 +10,9 @@ use lib.ListN.{getD}
 use Rattle.table.specs.Paper.{Row, parts, rightRow, waits}
 use Rattle.table.specs.Value.{noValue}
 use Rattle.table.specs.declared.Row.{Row as RowValue}
-use Rattle.figures.specs.Figures.{right, rounds, own, whole, split, atMost, splitFrom, single, lesser, judge, withSplit, splitRounds}
-use Rattle.figures.specs.Answers.{figureOf, numberIn, splitShown, figuresOf}
+use Rattle.figures.specs.Figures.{right, rounds, own, whole, split, splitFrom, judge, withSplit, splitRounds}
+use Rattle.verdicts.specs.Verdicts.{atMost, single, lesser, figureOf, numberIn}
+use Rattle.figures.specs.Answers.{splitShown, figuresOf}
 use Rattle.figures.specs.Work.{workedOf, rowsFrom, rowsOf, Taken}
 use Rattle.figures.specs.declared.RowFigures.{RowFigures}
 use Rattle.figures.specs.declared.Worked.{Worked}
@@ -86,8 +87,8 @@ solve-requires c κs =
 waits-requires : tie.Need-waits-requires
 waits-requires c κs = search needs
 
-single-verdict-requires : tie.Need-single-verdict-requires
-single-verdict-requires c κs = search needs
+of-one-stretch-requires : tie.Need-of-one-stretch-requires
+of-one-stretch-requires c κs = search needs
 
 returns : tie.Need-returns
 returns c =
@@ -96,8 +97,8 @@ returns c =
     let k = s .pre .1 (a .k) (omega arith) in
     let w = whole-worked (a .t1) (a .k) _ _ (c .before .before .before .before .before .before .above-of .ensures) (c .before .before .before .solve .result) (c .before .before .before .before .own-of .result) (c .before .before .before .before .own-of .ensures) (c .before .before .before .solve .ensures) in
     let n = sym (c .before .before .waits .ensures) ∙ not-true _ (c .before .if1 .taken) in
-    let v = c .single-verdict .ensures ∙ ap (λ f. single (numberIn f)) (w .0) ∙ ap single (figure-back (whole (rowsOf (a .t1)) (a .k))) in
-    let e : _≡_ {A = RowFigures} (record { verdict = c .single-verdict .result; whole = c .before .before .before .solve .result .figure; split = figureOf none; rounds = c .before .before .before .solve .result .rounds })
+    let v = c .of-one-stretch .ensures ∙ ap (λ f. single (numberIn f)) (w .0) ∙ ap single (figure-back (whole (rowsOf (a .t1)) (a .k))) in
+    let e : _≡_ {A = RowFigures} (record { verdict = c .of-one-stretch .result; whole = c .before .before .before .solve .result .figure; split = figureOf none; rounds = c .before .before .before .solve .result .rounds })
     (record { verdict = single (whole (rowsOf (a .t1)) (a .k)); whole = figureOf (whole (rowsOf (a .t1)) (a .k)); split = figureOf none; rounds = wholeRounds (rowsOf (a .t1)) (a .k) })
     = λ i. record { verdict = v i; whole = w .0 i; split = figureOf none; rounds = w .1 i } in
     e ∙ sym (one-figures (rowsOf (a .t1)) (a .k) (k .right) n)
@@ -108,8 +109,8 @@ split-of-requires c κs = (c .before .before .before .before .before .before .pr
 at-most-requires : tie.Need-at-most-requires
 at-most-requires c κs = search needs
 
-lesser-verdict-requires : tie.Need-lesser-verdict-requires
-lesser-verdict-requires c κs = search needs
+of-waiting-requires : tie.Need-of-waiting-requires
+of-waiting-requires c κs = search needs
 
 add-t18 : tie.Need-add-t18
 add-t18 c =
@@ -132,10 +133,10 @@ returns-2 c =
     let n = sym (c .before .before .before .before .before .before .waits .ensures) ∙ not-false _ (c .before .before .before .before .before .if1 .left) in
     let q = c .before .before .before .at-most .ensures ∙ ap (λ (x : Worked). figureOf (atMost (rows (a .k) .deadline) (numberIn (x .figure)))) p
     ∙ ap (λ o. figureOf (atMost (rows (a .k) .deadline) o)) (figure-back (splitFrom rows (a .k) (parts (rows (a .k) .times)))) in
-    let v = c .before .before .lesser-verdict .ensures ∙ ap (λ f. lesser (numberIn f) (numberIn (c .before .before .before .at-most .result))) (w .0) ∙ ap (λ f. lesser (numberIn (figureOf (whole rows (a .k)))) (numberIn f)) q
+    let v = c .before .before .of-waiting .ensures ∙ ap (λ f. lesser (numberIn f) (numberIn (c .before .before .before .at-most .result))) (w .0) ∙ ap (λ f. lesser (numberIn (figureOf (whole rows (a .k)))) (numberIn f)) q
     ∙ ap (λ o. lesser o (numberIn (figureOf (split rows (a .k))))) (figure-back (whole rows (a .k))) ∙ ap (lesser (whole rows (a .k))) (figure-back (split rows (a .k))) in
     let m = ap (λ x. x + c .before .before .before .before .split-of .result .rounds) (w .1) ∙ ap (λ (x : Worked). wholeRounds rows (a .k) + x .rounds) p in
-    let e : _≡_ {A = RowFigures} (record { verdict = c .before .before .lesser-verdict .result; whole = c .before .before .before .before .before .before .before .solve .result .figure; split = c .before .before .before .at-most .result; rounds = c .before .before .before .before .before .before .before .solve .result .rounds + c .before .before .before .before .split-of .result .rounds })
+    let e : _≡_ {A = RowFigures} (record { verdict = c .before .before .of-waiting .result; whole = c .before .before .before .before .before .before .before .solve .result .figure; split = c .before .before .before .at-most .result; rounds = c .before .before .before .before .before .before .before .solve .result .rounds + c .before .before .before .before .split-of .result .rounds })
     (record {
       verdict = lesser (whole rows (a .k)) (split rows (a .k));
       whole = figureOf (whole rows (a .k));
@@ -155,10 +156,10 @@ figures-at-spec =
     own-of-requires
     solve-requires
     waits-requires
-    single-verdict-requires
+    of-one-stretch-requires
     returns
     split-of-requires
     at-most-requires
-    lesser-verdict-requires
+    of-waiting-requires
     add-t18
     returns-2)

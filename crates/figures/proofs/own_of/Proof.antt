@@ -9,7 +9,7 @@ use Rattle.figures.specs.Work.{safeNumber}
 use Rattle.table.specs.Limits.{mostTimes}
 use Rattle.words.specs.Lists.{sum as Sum}
 use Rattle.words.proofs.Lists.{sum-at, sum-end}
-use Rattle.table.specs.Value.{ticks}
+use Rattle.ticks.specs.Ticks.{ticks}
 use Rattle.table.proofs.Rows.{time-at, times-length}
 use Rattle.figures.proofs.Values.{own-is, sum-safe, deadline-safe}
 use Rattle.figures.proofs.own_of.Statement.{statement}

@@ -8,7 +8,7 @@ use borrow.Author.Needs.{needs}
 use lib.ListN.{length}
 use Rattle.table.specs.Limits.{mostRows}
 use Rattle.figures.specs.Figures.{demand, right, result, rounds}
-use Rattle.figures.specs.Answers.{figureOf}
+use Rattle.verdicts.specs.Verdicts.{figureOf}
 use Rattle.figures.specs.Work.{safeNumber, rowsFrom, Modest, Counted}
 use Rattle.figures.proofs.Recurrence.{demand-mono}
 use Rattle.figures.proofs.Counting.{demand-safe, counted-start}

@@ -10,12 +10,13 @@ use Rattle.table.specs.Limits.{mostTimes}
 use Rattle.words.specs.Lists.{sum as Sum, upTo}
 use Rattle.words.proofs.Lists.{all-each}
 use Rattle.table.specs.Paper.{rightNumber, parts}
-use Rattle.table.specs.Value.{noValue, ticks, rowOf}
+use Rattle.table.specs.Value.{noValue, rowOf}
+use Rattle.ticks.specs.Ticks.{ticks}
+use Rattle.verdicts.specs.Verdicts.{figureOf, numberIn}
 use Rattle.table.specs.declared.Row.{Row as RowValue}
 use Rattle.table.proofs.Rows.{time-at}
 use Rattle.table.proofs.Rules.{row-times, row-sum, row-count, number-range, count-most}
 use Rattle.figures.specs.Figures.{right, result, rounds}
-use Rattle.figures.specs.Answers.{figureOf, numberIn}
 use Rattle.figures.specs.Work.{safeNumber, workedOf, splitWorked, rowsFrom, rowsOf, Taken, Kept}
 use Rattle.figures.specs.declared.Above.{Above}
 use Rattle.figures.specs.declared.Worked.{Worked}

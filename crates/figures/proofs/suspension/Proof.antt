@@ -4,7 +4,7 @@ use Prim.Native.Nat.{ℕ, zero, suc, _-_}
 use native.Mathlib.Omega.{arith}
 use lib.ListN.{getD}
 use Rattle.ticks.specs.declared.Length.{Length}
-use Rattle.table.specs.Value.{ticks, long}
+use Rattle.ticks.specs.Ticks.{ticks, long}
 use Rattle.table.proofs.Rows.{time-at}
 use borrow.Author.Needs.{needs}
 use Rattle.figures.proofs.suspension.Statement.{statement}

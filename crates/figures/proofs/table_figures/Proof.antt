@@ -16,7 +16,8 @@ use Rattle.table.specs.Value.{tableOf, wellFormed}
 use Rattle.table.specs.declared.Table.{Table as TableValue}
 use Rattle.refusals.specs.declared.Refusal.the-variants.{NoSuchRow}
 use Rattle.table.proofs.Used.{len-is, len-most}
-use Rattle.figures.specs.Answers.{figuresOf, slotOf, slots as slotsOf, joinedOf, tableVerdict, tableFigures}
+use Rattle.figures.specs.Answers.{figuresOf, slotOf, slots as slotsOf, tableVerdict, tableFigures}
+use Rattle.verdicts.specs.Verdicts.{joinedOf}
 use Rattle.figures.specs.Work.{rowsOf}
 use Rattle.figures.specs.declared.Answer.the-variants.{Row as RowIs, Refused}
 use Rattle.figures.specs.declared.RowFigures.{RowFigures}

@@ -9,7 +9,7 @@ use Rattle.ticks.specs.declared.Length.{Length}
 use Rattle.words.specs.Lists.{upTo}
 use Rattle.table.specs.Limits.{mostTimes}
 use Rattle.table.specs.Paper.{parts, work}
-use Rattle.table.specs.Value.{ticks, long}
+use Rattle.ticks.specs.Ticks.{ticks, long}
 use Rattle.table.proofs.Rows.{time-at, times-within}
 use Rattle.figures.specs.Work.{safeNumber}
 use Rattle.figures.proofs.Rows.{work-at, work-end}

@@ -7,7 +7,7 @@ use borrow.Author.Needs.{needs}
 use lib.ListN.{length-append, length, take, set, replicate, length-map, length-set}
 use lib.Seq.{set-at, take-all}
 use Rattle.table.specs.Limits.{mostTimes}
-use Rattle.table.specs.Value.{ticks, long}
+use Rattle.ticks.specs.Ticks.{ticks, long}
 use Rattle.words.proofs.Filled.{filled-next}
 use Rattle.kernel.proofs.lane_of.Statement.{statement}
 use Rattle.kernel.proofs.lane_of.Tie as tie

@@ -4,7 +4,8 @@ use Prim.Native.Nat.{_+_}
 use borrow.Author.Tests.{lt-ltb, le-ltb}
 use borrow.Author.Needs.{needs}
 use Rattle.ticks.specs.declared.Instant.{Instant}
-use Rattle.kernel.specs.Tick.{instant, endedOf, servedOf}
+use Rattle.kernel.specs.Tick.{endedOf, servedOf}
+use Rattle.ticks.specs.Ticks.{instant}
 use Rattle.kernel.specs.Safe.{Fits}
 use Rattle.kernel.proofs.Laws.{later-is}
 use Rattle.kernel.proofs.served.Statement.{statement}

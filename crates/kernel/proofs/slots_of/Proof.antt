@@ -11,7 +11,7 @@ use Rattle.ticks.specs.declared.Instant.{Instant}
 use Rattle.table.specs.Limits.{mostRows}
 use Rattle.kernel.specs.declared.Slot.{Slot}
 use Rattle.kernel.specs.Run.{slotOf}
-use Rattle.kernel.specs.Tick.{instant}
+use Rattle.ticks.specs.Ticks.{instant}
 use Rattle.kernel.specs.Noted.{completionOf, slotsOf}
 use Rattle.words.proofs.Filled.{fill-next}
 use Rattle.kernel.proofs.slots_of.Statement.{statement}

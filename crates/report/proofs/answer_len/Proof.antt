@@ -2,7 +2,7 @@
 use mathlib.Core.Path.{_≡_, ap, _∙_}
 use Prim.Native.Nat.{_+_, _≤_}
 use Rattle.report.specs.Report.{figureText, verdictWord, figureIn, rowLine, longestReport}
-use Rattle.figures.specs.declared.Figure.{Figure}
+use Rattle.verdicts.specs.declared.Figure.{Figure}
 use native.Mathlib.Omega.{arith}
 use lib.ListN.{length}
 use Rattle.decimal.specs.Decimal.{digits}

@@ -13,7 +13,7 @@ use Rattle.words.specs.Lists.{all}
 use Rattle.words.proofs.Choice.{and-true, and-false}
 use Rattle.words.proofs.Lists.{all-at, all-end}
 use Rattle.table.specs.Paper.{rightNumber}
-use Rattle.table.specs.Value.{ticks, long}
+use Rattle.ticks.specs.Ticks.{ticks, long}
 use Rattle.ticks.specs.declared.Length.{Length}
 use Rattle.table.proofs.Rows.{time-at, times-length}
 use Rattle.rules.proofs.right_times.Statement.{statement}

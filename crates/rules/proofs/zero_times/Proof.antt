@@ -11,7 +11,7 @@ use Rattle.table.specs.Limits.{mostTimes}
 use Rattle.words.specs.Lists.{isZero, all}
 use Rattle.words.proofs.Choice.{and-true, and-false}
 use Rattle.words.proofs.Lists.{all-at, all-end}
-use Rattle.table.specs.Value.{ticks}
+use Rattle.ticks.specs.Ticks.{ticks}
 use Rattle.table.proofs.Rows.{time-at, times-length}
 use Rattle.rules.proofs.zero_times.Statement.{statement}
 use Rattle.rules.proofs.zero_times.Tie as tie

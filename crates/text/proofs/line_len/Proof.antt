@@ -9,7 +9,8 @@ use Rattle.words.specs.Lists.{upTo}
 use borrow.Author.Needs.{needs}
 use Rattle.decimal.specs.Decimal.{digits}
 use Rattle.table.specs.Limits.{mostTimes, longestText}
-use Rattle.table.specs.Value.{ticks, rowOf}
+use Rattle.table.specs.Value.{rowOf}
+use Rattle.ticks.specs.Ticks.{ticks}
 use Rattle.table.proofs.Rows.{times-within}
 use Rattle.text.specs.Write.{numbersText, lineText}
 use Rattle.text.proofs.Fits.{line-fits}

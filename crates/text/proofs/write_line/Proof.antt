@@ -8,7 +8,8 @@ use Rattle.words.proofs.Put.{Put, spliced, put-over, put-byte, put-part, put-wi
 use Rattle.words.proofs.Lists.{take-upTo}
 use Rattle.table.specs.Limits.{mostTimes}
 use Rattle.table.specs.Paper.{Row}
-use Rattle.table.specs.Value.{ticks, rowOf}
+use Rattle.table.specs.Value.{rowOf}
+use Rattle.ticks.specs.Ticks.{ticks}
 use Rattle.table.proofs.Rows.{times-within}
 use Rattle.fields.specs.Fields.{lineFeed}
 use Rattle.text.specs.Write.{numbersText, lineText}

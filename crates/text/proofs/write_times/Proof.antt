@@ -8,7 +8,7 @@ use lib.ListN.{length, take, getD, length-append}
 use borrow.Author.Needs.{needs}
 use Rattle.words.proofs.Put.{Put, put-none, put-within, put-fitted}
 use Rattle.table.specs.Limits.{mostTimes}
-use Rattle.table.specs.Value.{ticks, long}
+use Rattle.ticks.specs.Ticks.{ticks, long}
 use Rattle.table.proofs.Rows.{time-at, times-length}
 use Rattle.decimal.specs.Decimal.{digits}
 use Rattle.fields.specs.Fields.{tab}

@@ -6,7 +6,8 @@ use native.Mathlib.Omega.{arith}
 use borrow.Author.Needs.{needs}
 use lib.ListN.{length, take, replicate, length-set}
 use Rattle.table.specs.Limits.{mostRows}
-use Rattle.kernel.specs.Tick.{instant, cellOf, startOf}
+use Rattle.kernel.specs.Tick.{cellOf, startOf}
+use Rattle.ticks.specs.Ticks.{instant}
 use Rattle.words.proofs.Filled.{filled-next, filled-all}
 use Rattle.kernel.proofs.Machine.start.Statement.{statement}
 use Rattle.kernel.proofs.Machine.start.Tie as tie

@@ -9,7 +9,8 @@ use borrow.Author.Tests.{le-leb, lt-leb}
 use lib.ListN.{length, take, drop, getD, length-map}
 use Rattle.table.specs.Limits.{mostRows}
 use Rattle.kernel.specs.declared.Cell.{Cell}
-use Rattle.kernel.specs.Tick.{instant, highest, runs, cellsOf, tickOf}
+use Rattle.kernel.specs.Tick.{highest, runs, cellsOf, tickOf}
+use Rattle.ticks.specs.Ticks.{instant}
 use Rattle.kernel.specs.Safe.{Fits}
 use Rattle.kernel.proofs.Laws.{noCell, later-is, found-here, found-later, found-none, ran-cells, same-cells}
 use Rattle.kernel.proofs.Machine.tick.Statement.{statement}

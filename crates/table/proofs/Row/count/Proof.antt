@@ -9,7 +9,7 @@ use borrow.Author.Needs.{needs}
 use lib.ListN.{length, drop, length-map}
 use Rattle.words.specs.Lists.{upTo}
 use Rattle.words.proofs.Lists.{upTo-at, upTo-here, upTo-end}
-use Rattle.table.specs.Value.{ticks}
+use Rattle.ticks.specs.Ticks.{ticks}
 use Rattle.table.proofs.Row.count.Statement.{statement}
 use Rattle.table.proofs.Row.count.Tie as tie
 

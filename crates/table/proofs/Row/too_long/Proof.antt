@@ -10,7 +10,7 @@ use lib.ListN.{length, drop, length-map}
 use borrow.Author.Tests.{lt-ltb, le-ltb}
 use Rattle.words.specs.Lists.{sum}
 use Rattle.words.proofs.Lists.{sum-at, sum-end}
-use Rattle.table.specs.Value.{ticks}
+use Rattle.ticks.specs.Ticks.{ticks}
 use Rattle.table.proofs.Row.too_long.Statement.{statement}
 use Rattle.table.proofs.Row.too_long.Tie as tie
 

@@ -1,6 +1,6 @@
 use borrow.Author.Needs.{needs}
-use Rattle.figures.proofs.single_verdict.Statement.{statement}
-use Rattle.figures.proofs.single_verdict.Tie as tie
+use Rattle.verdicts.proofs.of_one_stretch.Statement.{statement}
+use Rattle.verdicts.proofs.of_one_stretch.Tie as tie
 
 enum-told : tie.Need-enum-told
 enum-told c = search needs
@@ -14,5 +14,5 @@ returns c = search needs
 returns-2 : tie.Need-returns-2
 returns-2 c = rw (c .before .whole .given .1)
 
-pub single-verdict-spec : {M : Type 1} → statement M
-single-verdict-spec = tie.close (tie.spec enum-told enum-known-whole returns returns-2)
+pub of-one-stretch-spec : {M : Type 1} → statement M
+of-one-stretch-spec = tie.close (tie.spec enum-told enum-known-whole returns returns-2)

@@ -1,7 +1,7 @@
 use borrow.Author.Tests.{le-leb, lt-leb}
 use borrow.Author.Needs.{needs}
-use Rattle.figures.proofs.lesser_verdict.Statement.{statement}
-use Rattle.figures.proofs.lesser_verdict.Tie as tie
+use Rattle.verdicts.proofs.of_waiting.Statement.{statement}
+use Rattle.verdicts.proofs.of_waiting.Tie as tie
 
 enum-told : tie.Need-enum-told
 enum-told c = search needs
@@ -36,8 +36,8 @@ returns-4 c = rw (c .before .before .before .before .before .before .before .who
 returns-5 : tie.Need-returns-5
 returns-5 c = rw (c .before .before .before .before .before .before .before .whole .given .1, c .before .before .before .before .split2 .given .1, lt-leb _ _ (c .if1 .left))
 
-pub lesser-verdict-spec : {M : Type 1} → statement M
-lesser-verdict-spec =
+pub of-waiting-spec : {M : Type 1} → statement M
+of-waiting-spec =
     tie.close
     (tie.spec
     enum-told
