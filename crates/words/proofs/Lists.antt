@@ -11,7 +11,7 @@ use lib.Seq.{drop-cons, drop-append-seam}
 use borrow.Author.Tests.{eqb-true, eq-eqb, ne-eqb, not-true}
 use Rattle.words.specs.Choice.{if_then_else_, _and_, _or_}
 use Rattle.words.specs.Lists.{isZero, sum, all, any, same, upTo, padded}
-use Rattle.words.proofs.Choice.{and-parts, and-both, or-parts, or-false, or-nothing}
+use Rattle.words.proofs.Choice.{and-parts, and-both, or-false, or-nothing}
 
 pub sum-at : (xs : List ℕ) (i : ℕ) → i < length xs → sum (drop i xs) ≡ getD xs i 0 + sum (drop (i + 1) xs)
 unfolding sum
@@ -177,8 +177,29 @@ unfolding all
 all-append test [] ys p q = q
 all-append test (x ∷ xs) ys p q = and-both (and-parts p .0) (all-append test xs ys (and-parts p .1) q)
 
+-- one element more
+pub all-snoc : {A : Type 0} (test : A → Bool) (xs : List A) (y : A) → all test (xs ++ (y ∷ [])) ≡ (all test xs and test y)
+unfolding all _and_
+all-snoc test [] y = last (test y)
+  where
+    last : (b : Bool) → (b and true) ≡ b
+    last true = refl
+    last false = refl
+all-snoc test (x ∷ xs) y = go (test x) (all-snoc test xs y)
+  where
+    go : (b : Bool) → all test (xs ++ (y ∷ [])) ≡ (all test xs and test y) → (b and all test (xs ++ (y ∷ []))) ≡ ((b and all test xs) and test y)
+    go true e = e
+    go false e = refl
+
+pub any-snoc : {A : Type 0} (test : A → Bool) (xs : List A) (y : A) → any test (xs ++ (y ∷ [])) ≡ (any test xs or test y)
+unfolding any _or_
+any-snoc test [] y = or-nothing (test y)
+any-snoc test (x ∷ xs) y = go (test x) (any-snoc test xs y)
+  where
+    go : (b : Bool) → any test (xs ++ (y ∷ [])) ≡ (any test xs or test y) → (b or any test (xs ++ (y ∷ []))) ≡ ((b or any test xs) or test y)
+    go true e = refl
+    go false e = e
+
 -- where none of the others passes, the last one decides
 pub any-last : {A : Type 0} (test : A → Bool) (xs : List A) (y : A) → any test xs ≡ false → any test (xs ++ (y ∷ [])) ≡ test y
-unfolding any
-any-last test [] y e = or-nothing (test y)
-any-last test (x ∷ xs) y e = or-false (any test (xs ++ (y ∷ []))) (or-parts e .0) ∙ any-last test xs y (or-parts e .1)
+any-last test xs y e = any-snoc test xs y ∙ or-false (test y) e

@@ -1,8 +1,7 @@
 -- `table_figures` meets its contract: the rows passed have their answers, and the verdict is that of the rows passed.
 use Rattle.table.specs.Limits.{mostRows}
-use Rattle.words.specs.Lists.{below}
-use native.Mathlib.Numerals.{add-one}
-use Prim.Native.Nat.{suc, ℕ, _-_, _≤_}
+use Rattle.words.specs.Lists.{all, below}
+use Prim.Native.Nat.{ℕ, _-_, _≤_, _+_}
 use mathlib.Core.Path.{_≡_, refl, sym, ap, _∙_}
 use mathlib.Core.Bool.{true}
 use native.Mathlib.Omega.{arith}
@@ -23,7 +22,7 @@ use Rattle.figures.specs.declared.Answer.the-variants.{Row as RowIs, Ref
 use Rattle.figures.specs.declared.RowFigures.{RowFigures}
 use Rattle.figures.specs.declared.TableFigures.{TableFigures}
 use Rattle.figures.specs.declared.Slot.{Slot}
-use Rattle.figures.proofs.Tables.{rows-same, row-kept, verdictOf, verdict-whole}
+use Rattle.figures.proofs.Tables.{rows-same, row-kept, verdictOf, verdict-next, verdict-whole}
 use Rattle.figures.proofs.table_figures.Statement.{statement}
 use Rattle.figures.proofs.table_figures.Tie as tie
 
@@ -62,7 +61,7 @@ returns c =
     sym (if-false _ _ (sym (c .before .well-formed .ensures) ∙ not-true _ (c .if1 .taken)))
 
 loop-holds : tie.Need-loop-holds Inv-loop μ-loop
-unfolding below
+unfolding below all
 loop-holds c =
     (omega arith, refl, refl)
 
@@ -101,10 +100,10 @@ loop-again c =
     let ok = sym (c .before .before .before .before .before .well-formed .ensures) ∙ not-false _ (c .before .before .before .before .if1 .left) in
     let rows = rowsOf (s .args .t .rows) in
     let f = c .before .figures-at .ensures in
-    let v : c .joined .result ≡ verdictOf rows (suc (l .k))
-    = c .joined .ensures ∙ ap (λ x. joinedOf x (c .before .figures-at .result .verdict)) (l .inv .1) ∙ ap (λ (x : RowFigures). joinedOf (verdictOf rows (l .k)) (x .verdict)) f in (
+    let v : c .joined .result ≡ verdictOf rows (l .k + 1)
+    = c .joined .ensures ∙ ap (λ x. joinedOf x (c .before .figures-at .result .verdict)) (l .inv .1) ∙ ap (λ (x : RowFigures). joinedOf (verdictOf rows (l .k)) (x .verdict)) f ∙ verdict-next rows (l .k) in (
       search needs,
-      v ∙ ap (verdictOf rows) (sym (add-one (l .k))),
+      v,
       ap (λ xs. set xs (l .k) (slotOf (RowIs (c .before .figures-at .result)))) (l .inv .2)
           ∙ fill-next (slotAt rows) (slotOf (Refused NoSuchRow)) (slotOf (RowIs (c .before .figures-at .result))) mostRows (l .k)
           (omega (arith, len-most (s .args .t) ok, c .before .before .loop-test .taken)) (ap (λ x. slotOf (RowIs x)) f),
