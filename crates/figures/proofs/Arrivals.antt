@@ -51,11 +51,6 @@ module _ (n : ℕ) (some : 1 ≤ n) where
       let y : (t % n - 1) / n ≡ 0 = div-eq-of-lt (omega (arith, mod-lt t some)) in
       omega (arith, ceiling-suc t, ap (λ k. k / n) z, add-mul-div-left (t % n - 1 + n) (t / n) some, add-div-right (t % n - 1) some)
 
--- the releases, as code counts them
-pub arrivals-counted : (r : Row) (t : ℕ) → arrivals r t ≡ (t + (r .period - 1)) / r .period
-unfolding arrivals ceiling
-arrivals-counted r t = refl
-
 module _ (r : Row) (some : 1 ≤ r .period) where
   -- no tick, no release
   pub arrivals-zero : arrivals r 0 ≡ 0

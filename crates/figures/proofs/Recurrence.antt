@@ -117,14 +117,6 @@ module _ (f : ℕ → ℕ) (d : ℕ) where
           from (found S e l le under) h = absurd (omega (arith, h S (l .positive) (l .fixed)))
           from (missing e n) h = e
 
-      -- a y up to d that is a fixed point, or that f does not pass, is enough for a result, and bounds it
-      pub result-below : (y : ℕ) → f y ≤ y → y ≤ d → (R : ℕ) × (result f d c ≡ some R) × (R ≤ y)
-      result-below y h le = go answer
-        where
-          go : Answer → (R : ℕ) × (result f d c ≡ some R) × (R ≤ y)
-          go (found R e l low under) = (R, e, under y h)
-          go (missing e n) = absurd (omega (arith, n y h))
-
       -- the right side is worked out at most d - c + 1 times
       pub rounds-few : rounds f d c ≤ d - c + 1
       rounds-few = omega (arith, ended .few)

@@ -105,9 +105,6 @@ addTo-plus : (x s r : ℕ) (o : Option ℕ) → addTo x (plus s (some r) o) ≡ 
 addTo-plus x s r none = refl
 addTo-plus x s r (some b) = let z : x + (s + r + b) ≡ x + (s + r) + b = omega arith in ap some z
 
-addTo-none : (x s : ℕ) (o : Option ℕ) → addTo x (plus s none o) ≡ none
-addTo-none x s o = refl
-
 addTo-zero : (o : Option ℕ) → addTo 0 o ≡ o
 addTo-zero none = refl
 addTo-zero (some b) = let z : 0 + b ≡ b = omega arith in ap some z

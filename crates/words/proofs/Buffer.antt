@@ -6,7 +6,7 @@ use native.Mathlib.Omega.{arith}
 use native.Mathlib.Numerals.{add-one}
 use borrow.Author.Tests.{le-leb, lt-leb}
 use lib.ListN.{length, take, drop, set, getD, length-append, length-drop, length-take, drop-of-length-le}
-use lib.Seq.{drop-append-add, drop-drop, drop-append-seam, take-append-seam, take-all, take-length, set-at, drop-cons}
+use lib.Seq.{drop-drop, drop-append-seam, take-append-seam, take-all, take-length, set-at, drop-cons}
 use Rattle.words.specs.Buffer.{over, placed, fitted}
 
 pub over-nil : (d : List ℕ) → over [] d ≡ d
@@ -40,14 +40,6 @@ over-part bs cs d x at k ex ea ek h =
 -- a part that is lent has the room that is left
 pub part-room : (x : List ℕ) (at m : ℕ) → at + m ≤ length x → m ≤ length (take (length x - at) (drop at x))
 part-room x at m h = simp (length-take, length-drop) (omega arith)
-
--- what is put there last counts
-pub over-over : (bs us d : List ℕ) → length us ≤ length bs → over bs (over us d) ≡ over bs d
-unfolding over
-over-over bs us d h =
-    let m = length bs - length us in
-    let e : length bs ≡ length us + m = omega arith in
-    rw e (ap (λ (l : List ℕ). bs ++ l) (drop-append-add us (drop (length us) d) m ∙ drop-drop m (length us) d))
 
 pub placed-fits : (bs d : List ℕ) → length bs ≤ length d → placed bs d ≡ over bs d
 unfolding placed

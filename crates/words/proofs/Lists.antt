@@ -44,14 +44,6 @@ module _ {A : Type 0} (test : A → Bool) where
   unfolding all
   all-end xs i h = rw (drop-of-length-le xs h)
 
-  pub any-at : (xs : List A) (i : ℕ) (d : A) → i < length xs → any test (drop i xs) ≡ (test (getD xs i d) or any test (drop (i + 1) xs))
-  unfolding any
-  any-at xs i d h = rw (drop-cons xs i d, add-one)
-
-  pub any-end : (xs : List A) (i : ℕ) → length xs ≤ i → any test (drop i xs) ≡ false
-  unfolding any
-  any-end xs i h = rw (drop-of-length-le xs h)
-
   -- what all elements pass, each does
   pub all-each : (xs : List A) → all test xs ≡ true → (i : ℕ) (d : A) → i < length xs → test (getD xs i d) ≡ true
   unfolding all
