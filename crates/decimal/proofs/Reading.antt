@@ -13,7 +13,7 @@ use borrow.Author.Tests.{leb-true, eqb-false, le-leb, lt-leb, eq-eqb, ne-eqb, no
 use Rattle.words.specs.Choice.{if_then_else_, _and_}
 use Rattle.words.specs.Lists.{all}
 use Rattle.words.proofs.Choice.{and-parts, and-both, and-false, and-last-false, if-true, if-false}
-use Rattle.decimal.specs.Decimal.{digits, digit, value, leads, numberOf}
+use Rattle.decimal.specs.Decimal.{digits, digit, value, leads, readNumber}
 use Rattle.decimal.specs.declared.Number.the-variants.{Is, No}
 use Rattle.decimal.proofs.Digits.{by-last-digit, digits-small, digits-big, digits-snoc}
 
@@ -102,31 +102,31 @@ leads-digits n = go n (decLt n 1)
     go n (yes h) = rw (digits-small n (omega arith))
     go n (no h) = heads-leads (digits n) (heads-digits n (omega arith))
 
--- what numberOf answers
+-- what readNumber answers
 
-pub number-is : (lo hi : ℕ) (s : List ℕ) → leads s ≡ true → all digit s ≡ true → lo ≤ value 0 s → value 0 s ≤ hi → numberOf lo hi s ≡ Is (value 0 s)
-unfolding numberOf
+pub number-is : (lo hi : ℕ) (s : List ℕ) → leads s ≡ true → all digit s ≡ true → lo ≤ value 0 s → value 0 s ≤ hi → readNumber lo hi s ≡ Is (value 0 s)
+unfolding readNumber
 number-is lo hi s a b c d = if-true _ _ (and-both a (and-both b (and-both (le-leb lo (value 0 s) c) (le-leb (value 0 s) hi d))))
 
-pub number-leads : (lo hi : ℕ) (s : List ℕ) → leads s ≡ false → numberOf lo hi s ≡ No
-unfolding numberOf
+pub number-leads : (lo hi : ℕ) (s : List ℕ) → leads s ≡ false → readNumber lo hi s ≡ No
+unfolding readNumber
 number-leads lo hi s e = if-false _ _ (and-false _ e)
 
-pub number-digit : (lo hi : ℕ) (s : List ℕ) → all digit s ≡ false → numberOf lo hi s ≡ No
-unfolding numberOf
+pub number-digit : (lo hi : ℕ) (s : List ℕ) → all digit s ≡ false → readNumber lo hi s ≡ No
+unfolding readNumber
 number-digit lo hi s e = if-false _ _ (and-last-false (leads s) (and-false _ e))
 
-pub number-low : (lo hi : ℕ) (s : List ℕ) → value 0 s < lo → numberOf lo hi s ≡ No
-unfolding numberOf
+pub number-low : (lo hi : ℕ) (s : List ℕ) → value 0 s < lo → readNumber lo hi s ≡ No
+unfolding readNumber
 number-low lo hi s h = if-false _ _ (and-last-false (leads s) (and-last-false (all digit s) (and-false _ (lt-leb lo (value 0 s) h))))
 
-pub number-high : (lo hi : ℕ) (s : List ℕ) → hi < value 0 s → numberOf lo hi s ≡ No
-unfolding numberOf
+pub number-high : (lo hi : ℕ) (s : List ℕ) → hi < value 0 s → readNumber lo hi s ≡ No
+unfolding readNumber
 number-high lo hi s h =
     if-false _ _ (and-last-false (leads s) (and-last-false (all digit s) (and-last-false (leb lo (value 0 s)) (lt-leb (value 0 s) hi h))))
 
 -- WHAT IS WRITTEN READS BACK, for every limit
-pub number-digits : (lo hi n : ℕ) → lo ≤ n → n ≤ hi → numberOf lo hi (digits n) ≡ Is n
+pub number-digits : (lo hi n : ℕ) → lo ≤ n → n ≤ hi → readNumber lo hi (digits n) ≡ Is n
 number-digits lo hi n l h =
     let v = value-digits n in
     number-is lo hi (digits n) (leads-digits n) (all-digits n) (rw v l) (rw v h) ∙ rw v
@@ -160,8 +160,8 @@ no-is : (n : ℕ) → No ≡ Is n → ⊥
 no-is n e = let z : _≡_ {A = ℕ} 0 1 = cc in omega arith
 
 -- WHAT IS ACCEPTED WRITES BACK TO THE SAME BYTES, for every limit
-pub digits-number : (lo hi : ℕ) (bs : List ℕ) (n : ℕ) → numberOf lo hi bs ≡ Is n → (digits n ≡ bs) × (lo ≤ n) × (n ≤ hi)
-unfolding numberOf
+pub digits-number : (lo hi : ℕ) (bs : List ℕ) (n : ℕ) → readNumber lo hi bs ≡ Is n → (digits n ≡ bs) × (lo ≤ n) × (n ≤ hi)
+unfolding readNumber
 digits-number lo hi bs n e = go (leads bs and all digit bs and leb lo (value 0 bs) and leb (value 0 bs) hi) refl e
   where
     go : (t : Bool) → (leads bs and all digit bs and leb lo (value 0 bs) and leb (value 0 bs) hi) ≡ t

@@ -35,6 +35,6 @@ leads (b ∷ []) = true
 leads (b ∷ c ∷ bs) = not (eqb b 48)
 
 -- what bytes read as: a number from lo to hi, decimal, with no leading zero and no sign; or no number
-unfoldable pub numberOf : ℕ → ℕ → List ℕ → Number
-numberOf lo hi bs =
+unfoldable pub readNumber : ℕ → ℕ → List ℕ → Number
+readNumber lo hi bs =
     if leads bs and all digit bs and leb lo (value 0 bs) and leb (value 0 bs) hi then Is (value 0 bs) else No

@@ -3,7 +3,7 @@ ghost use mathlib.Core.Path.{_≡_};
 ghost use Prim.Native.Nat.{_≤_};
 ghost use lib.ListN.{length, drop};
 ghost use Rattle.words.specs.Buffer.{placed, fitted};
-ghost use Rattle.decimal.specs.Decimal.{digits, numberOf};
+ghost use Rattle.decimal.specs.Decimal.{digits, readNumber};
 
 // What bytes read as.
 pub enum Number {
@@ -13,7 +13,7 @@ pub enum Number {
 
 // Reads all of the bytes as a number from lo to hi.
 pub fn read(bytes: &[u8], lo: u64, hi: u64) -> Number
-    ensures { λ r. ⌜ r ≡ numberOf lo hi (now (bytes .entry)) ⌝ }
+    ensures { λ r. ⌜ r ≡ readNumber lo hi (now (bytes .entry)) ⌝ }
 {
     let n = bytes.len();
     if n == 0 {

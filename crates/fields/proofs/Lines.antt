@@ -1,14 +1,17 @@
 -- Fields put into a line one after the other, and lines into a text.
 use mathlib.Core.Path.{_≡_, refl, sym, ap, _∙_}
+use mathlib.Core.Bool.{Bool, true}
 use mathlib.Core.List.{List, [], _∷_, _++_, map, append-assoc, append-nil}
 use Prim.Native.Nat.{ℕ, zero, suc, _+_, _-_, _*_, _≤_, _<_}
 use native.Mathlib.Omega.{arith}
 use native.Mathlib.Numerals.{add-one}
-use lib.ListN.{length, take, drop, length-append}
-use Rattle.words.specs.Lists.{below}
+use lib.ListN.{length, take, drop, getD, length-append}
+use Rattle.words.specs.Lists.{all, below}
 use Rattle.words.specs.Buffer.{placed, fitted}
+use Rattle.words.proofs.Choice.{and-parts, and-both}
+use Rattle.words.proofs.Lists.{all-append}
 use Rattle.words.proofs.Buffer.{placed-fits, fitted-fits}
-use Rattle.words.proofs.Filled.{map-below}
+use Rattle.words.proofs.Filled.{map-below, take-below}
 use Rattle.words.proofs.Put.{Put, spliced, put-over, put-fitted}
 use Rattle.fields.specs.Fields.{lineFeed, tab, fieldsText, line, joined}
 
@@ -47,6 +50,18 @@ pub line-length : (f : List ℕ) (fs : List (List ℕ)) → length (line f fs) �
 unfolding line
 line-length f fs = omega (arith, length-append (f ++ fieldsText fs) (lineFeed ∷ []), length-append f (fieldsText fs))
 
+-- the two halves of a line, as they are written
+pub line-parts : (first : List ℕ) (fs gs : List (List ℕ)) → line first (fs ++ gs) ≡ first ++ fieldsText fs ++ fieldsText gs ++ (lineFeed ∷ [])
+unfolding line
+line-parts first fs gs =
+    ap (λ (l : List ℕ). l ++ (lineFeed ∷ [])) (ap (λ (l : List ℕ). first ++ l) (fields-append fs gs) ∙ sym (append-assoc first (fieldsText fs) (fieldsText gs)))
+
+-- what the tab and all bytes of the fields pass, their text does
+pub fields-all : (test : ℕ → Bool) (fs : List (List ℕ)) → test tab ≡ true → all (all test) fs ≡ true → all test (fieldsText fs) ≡ true
+unfolding fieldsText all
+fields-all test [] t e = refl
+fields-all test (f ∷ fs) t e = and-both t (all-append test f (fieldsText fs) (and-parts e .0) (fields-all test fs t (and-parts e .1)))
+
 -- a field, put behind the first and the others
 pub put-field : (first : List ℕ) {d x : List ℕ} {at : ℕ} (fs : List (List ℕ)) (f y : List ℕ) (r : ℕ) → Put (first ++ fieldsText fs) d x at
     → length (first ++ fieldsText (fs ++ (f ∷ []))) ≤ length d
@@ -84,7 +99,7 @@ module _ (lineAt : ℕ → List ℕ) where
   abbrev size : ℕ → ℕ
   size n = length (joined (map lineAt (below n)))
 
-  joined-grows : (n : ℕ) → size (n + 1) ≡ size n + length (lineAt n)
+  pub joined-grows : (n : ℕ) → size (n + 1) ≡ size n + length (lineAt n)
   joined-grows n = ap length (joined-next n) ∙ length-append (joined (map lineAt (below n))) (lineAt n)
 
   joined-front : (n k : ℕ) → size n ≤ size (k + n)
@@ -96,6 +111,16 @@ module _ (lineAt : ℕ → List ℕ) where
   joined-room n i h =
       let e : (n - (i + 1)) + (i + 1) ≡ n = omega arith in
       omega (arith, joined-grows i, joined-front (i + 1) (n - (i + 1)), ap size e)
+
+-- fields as parts of a text, each with its tab: the first n
+pub fields-below : {A : Type 0} (f : A → List ℕ) (xs : List A) (d : A) (n : ℕ) → n ≤ length xs
+    → fieldsText (map f (take n xs)) ≡ joined (map (λ k. tab ∷ f (getD xs k d)) (below n))
+unfolding fieldsText joined
+fields-below {A} f xs d n h = parts (take n xs) ∙ ap joined (take-below (λ x. tab ∷ f x) xs d n h)
+  where
+    parts : (xs : List A) → fieldsText (map f xs) ≡ joined (map (λ x. tab ∷ f x) xs)
+    parts [] = refl
+    parts (x ∷ xs) = ap (λ (l : List ℕ). tab ∷ f x ++ l) (parts xs)
 
 -- n lines of at most m bytes each have n times m bytes at most
 pub lines-length : (f : ℕ → List ℕ) (m n : ℕ) → ((k : ℕ) → k < n → length (f k) ≤ m) → length (joined (map f (below n))) ≤ n * m

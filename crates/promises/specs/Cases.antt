@@ -8,7 +8,7 @@ use Rattle.words.specs.Choice.{if_then_else_, _and_, _or_}
 use Rattle.words.specs.Lists.{all, any, sum, same, below}
 use Rattle.words.specs.Spelled.{spelled}
 use Rattle.refusals.specs.declared.Refusal.the-variants.{NoText, FieldCount}
-use Rattle.decimal.specs.Decimal.{digits, lastDigits, digit, value, leads, numberOf}
+use Rattle.decimal.specs.Decimal.{digits, lastDigits, digit, value, leads, readNumber}
 use Rattle.table.specs.Paper.{Row, Table, rowAt, parts, waits, named, nameByte, rightName, rightNumber, rightCount}
 use Rattle.ticks.specs.Ticks.{long}
 use Rattle.fields.specs.Fields.{lineFeed, fieldsText, line as lineText, joined}
@@ -80,5 +80,5 @@ cases =
 
 -- each case has its answer
 pub cases-hold : map (λ (c : Case). answer (c .asked)) cases ≡ map (λ (c : Case). c .expected) cases
-unfolding ceiling arrivals sequence waits readText readLines readLine readFields withNumber checkRow any all sum same named nameByte rightName rightNumber rightFields rightCount numberOf leads value digit lines fields onFirst answerText reportText rowLine lastLine lineText fieldsText joined below digits lastDigits tableVerdict verdicts _and_ _or_
+unfolding ceiling arrivals sequence waits readText readLines readLine readFields withNumber checkRow any all sum same named nameByte rightName rightNumber rightFields rightCount readNumber leads value digit lines fields onFirst answerText reportText rowLine lastLine lineText fieldsText joined below digits lastDigits tableVerdict verdicts _and_ _or_
 cases-hold = refl

@@ -1,23 +1,23 @@
 -- The parts of a report, as the code writes them, are the report.
-use mathlib.Core.Path.{_≡_, sym, ap, _∙_}
-use mathlib.Core.List.{List, [], _∷_, _++_, append-assoc}
-use Prim.Native.Nat.{ℕ, _+_}
+use mathlib.Core.Path.{_≡_}
+use mathlib.Core.List.{[], _∷_, _++_}
+use Prim.Native.Nat.{_+_}
 use native.Mathlib.Omega.{arith}
 use lib.ListN.{length}
 use Rattle.decimal.specs.Decimal.{digits}
-use Rattle.fields.specs.Fields.{lineFeed, fieldsText, line}
-use Rattle.fields.proofs.Lines.{fields-append, fields-none, fields-length, line-length}
+use Rattle.fields.specs.Fields.{lineFeed}
+use Rattle.fields.proofs.Lines.{fields-none, fields-length, line-length, line-parts}
 use Rattle.table.specs.Paper.{Row}
 use Rattle.figures.specs.declared.RowFigures.{RowFigures}
 use Rattle.report.specs.Report.{figureText, verdictWord, figureIn, rowLine}
 use Rattle.report.specs.Parts.{judgedText, boundsText}
 
 pub row-parts : (r : Row) (f : RowFigures) → rowLine r f ≡ judgedText r (f .verdict) ++ boundsText f ++ (lineFeed ∷ [])
-unfolding rowLine line judgedText boundsText
+unfolding rowLine judgedText boundsText
 row-parts r f =
     let v = verdictWord (f .verdict) ∷ figureText (figureIn (f .verdict)) ∷ [] in
     let b = figureText (f .whole) ∷ figureText (f .split) ∷ digits (f .rounds) ∷ [] in
-    ap (λ (l : List ℕ). l ++ (lineFeed ∷ [])) (ap (λ (l : List ℕ). r .name ++ l) (fields-append v b) ∙ sym (append-assoc (r .name) (fieldsText v) (fieldsText b)))
+    line-parts (r .name) v b
 
 -- the length of a row's line, field by field
 pub row-length : (r : Row) (f : RowFigures)

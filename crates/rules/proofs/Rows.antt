@@ -10,7 +10,7 @@ use lib.ListN.{length, getD, take, drop, length-drop}
 use lib.Seq.{take-all, take-suc}
 use Rattle.words.specs.Choice.{_and_}
 use Rattle.words.specs.Lists.{isZero, all, any, sum, upTo}
-use Rattle.words.proofs.Lists.{take-upTo, upTo-rest, zeros-are, sum-append, sum-zeros, any-last}
+use Rattle.words.proofs.Lists.{upTo-rest, zeros-are, sum-append, sum-zeros, any-last}
 use Rattle.words.proofs.Choice.{and-same, not-ltb}
 use Rattle.table.specs.declared.Row.{Row as RowValue}
 use Rattle.table.specs.Limits.{longestName}
@@ -18,7 +18,7 @@ use Rattle.table.specs.Paper.{rightName, rightNumber, rightCount, rightRow}
 use Rattle.table.specs.Value.{noValue, rowOf, nameIn}
 use Rattle.ticks.specs.Ticks.{ticks, long}
 use Rattle.rules.specs.Tests.{ended, rightValue, waitsValue, rowsTest}
-use Rattle.table.proofs.Rows.{used-row, used-end}
+use Rattle.table.proofs.Rows.{times-front, used-row, used-end}
 
 pub name-back : (v : RowValue) (n : ℕ) → length (v .name) ≡ longestName → n ≡ length (rowOf v .name) → all isZero (take (longestName - n) (drop n (v .name))) ≡ ended (v .name)
 unfolding ended
@@ -57,7 +57,7 @@ row-tests v n k {times = times₀} {f = f₀} {g = g₀} long-is a each-is b cou
 
     rules : (ts : List ℕ) → ts ≡ map ticks (v .times) → ended ts ≡ true → f₀ ≡ rightRow (rowOf v)
     rules ts m h =
-        let l : take n (map ticks (v .times)) ≡ upTo 0 (map ticks (v .times)) = rw k (take-upTo 0 (map ticks (v .times))) in
+        let l : take n (map ticks (v .times)) ≡ upTo 0 (map ticks (v .times)) = times-front v n k in
         let short = ap not long-is ∙ not-ltb (v .deadline .0) (sum (map ticks (v .times)))
         ∙ ap (λ (z : ℕ). leb z (v .deadline .0)) (sum-ended (map ticks (v .times)) (rw m at h)) in
         f ∙ rw (front-is, e, number₁-is, d, number₂-is, c, count-is, k, b, each-is, l, a, short)

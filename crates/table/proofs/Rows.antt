@@ -45,6 +45,10 @@ times-within v e = omega (arith, length-upTo 0 (map ticks (v .times)), times-len
 pub name-front : (v : RowValue) (n : ℕ) → n ≡ length (rowOf v .name) → take n (v .name) ≡ rowOf v .name
 name-front v n e = rw e (take-upTo 0 (v .name))
 
+-- the times in use are the first
+pub times-front : (v : RowValue) (n : ℕ) → n ≡ length (rowOf v .times) → take n (map ticks (v .times)) ≡ rowOf v .times
+times-front v n e = rw e (take-upTo 0 (map ticks (v .times)))
+
 -- the row at i among the first n
 
 pub used-row : (rows : List RowValue) (n i : ℕ) → i < n → n ≤ length rows → drop i (take n rows) ≡ getD rows i noValue ∷ drop (i + 1) (take n rows)

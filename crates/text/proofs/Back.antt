@@ -10,7 +10,7 @@ use borrow.Author.Tests.{eqb-true, eqb-false, ltb-false, ne-eqb, le-leb}
 use Rattle.words.specs.Choice.{if_then_else_, _and_}
 use Rattle.words.specs.Lists.{sum, all, any}
 use Rattle.words.proofs.Choice.{and-both}
-use Rattle.decimal.specs.Decimal.{numberOf, digits}
+use Rattle.decimal.specs.Decimal.{readNumber, digits}
 use Rattle.decimal.specs.declared.Number.{Number}
 use Rattle.decimal.specs.declared.Number.the-variants.{Is, No}
 use Rattle.decimal.proofs.Reading.{digits-number}
@@ -20,14 +20,14 @@ use Rattle.table.specs.Value.{tableOf, tableValue, wellFormed}
 use Rattle.table.proofs.Rules.{value-back, value-right, table-right}
 use Rattle.refusals.specs.declared.Refusal.{Refusal}
 use Rattle.refusals.specs.declared.Refusal.the-variants.{NoText, LongText, NoLineFeed, ManyLines, AfterWaiting, FieldCount, BadName, BadNumber, LateDeadline, LongTimes, NameTaken}
-use Rattle.fields.specs.Fields.{lineFeed}
+use Rattle.fields.specs.Fields.{lineFeed, joined}
 use Rattle.text.specs.declared.Outcome.the-variants.{Accepted, Refused}
 use Rattle.text.specs.declared.Reading.{Reading}
 use Rattle.text.specs.Split.{lines, fields}
 use Rattle.text.specs.Read.{Answer, accepted, refused, Line, got, bad, fixedFields, rightFields, noRow, withName, withNumber, onNumber, onLine, readFields, checkRow, readLine, readLines, readText, readingOf}
-use Rattle.text.specs.Write.{tableText}
-use Rattle.text.proofs.Split.{joined-fields, unlines-lines, lines-some}
-use Rattle.text.proofs.Lines.{right-row, right-number, fieldsOf, lineOf, table-lines}
+use Rattle.text.specs.Write.{lineText, tableText}
+use Rattle.text.proofs.Split.{ended, lines-some, lines-text}
+use Rattle.text.proofs.Lines.{numbersOf, right-row, right-number, fieldsOf, line-written}
 
 -- a refusal is no row, and no table
 
@@ -77,10 +77,10 @@ numbers-back : (fs : List (List ℕ)) (n f : ℕ) (r q : Row) → 2 ≤ f → re
 unfolding readFields withNumbers all
 numbers-back [] n f r q h e = record { values = []; written = refl; right = refl; row = cc }
 numbers-back (x ∷ xs) n f r q h e =
-    go (numberOf 1 largestNumber x) refl (rw (ne-eqb f 1 (omega arith)) at e)
+    go (readNumber 1 largestNumber x) refl (rw (ne-eqb f 1 (omega arith)) at e)
     (λ v i. numbers-back xs n (f + 1) (withNumber r f v) q (omega arith) i)
   where
-    go : (m : Number) → numberOf 1 largestNumber x ≡ m → onNumber m (λ v. readFields n (f + 1) (withNumber r f v) xs) (bad (BadNumber n f)) ≡ got q
+    go : (m : Number) → readNumber 1 largestNumber x ≡ m → onNumber m (λ v. readFields n (f + 1) (withNumber r f v) xs) (bad (BadNumber n f)) ≡ got q
         → ((v : ℕ) → readFields n (f + 1) (withNumber r f v) xs ≡ got q → Numbers (f + 1) (withNumber r f v) xs q) → Numbers f r (x ∷ xs) q
     go No p e ih = not-bad (BadNumber n f) q e
     go (Is v) p e ih =
@@ -92,7 +92,7 @@ numbers-back (x ∷ xs) n f r q h e =
 pub record Fields (fs : List (List ℕ)) (q : Row) : Type 0 where
   pub written : fs ≡ fieldsOf q
   pub name : rightName (q .name) ≡ true
-  pub numbers : all rightNumber (q .period ∷ q .deadline ∷ q .times) ≡ true
+  pub numbers : all rightNumber (numbersOf q) ≡ true
   pub count : rightCount (length (q .times)) ≡ true
 
 few-fields : {A : Type 0} (k : ℕ) → k ≤ fixedFields → rightFields k ≡ true → A
@@ -122,7 +122,7 @@ fields-back (x ∷ xs) n q c e = go (rightName x) refl e
 -- what a line has given
 record Taken (above : Table) (l : List ℕ) (r : Row) : Type 0 where
   first : any waits above ≡ false
-  written : l ≡ lineOf r
+  written : ended l ≡ lineText r
   right : rightRow r ≡ true
   new : named (r .name) above ≡ false
 
@@ -136,7 +136,7 @@ check-back n above r q e =
     (cc (p11 .1), ltb-false (r .period) (r .deadline) (p9 .0), ltb-false (r .deadline) (sum (r .times)) (p10 .0), p11 .0)
 
 line-back : (n : ℕ) (above : Table) (l : List ℕ) (q : Row) → readLine n above l ≡ got q → Taken above l q
-unfolding readLine lineOf
+unfolding readLine
 line-back n above l q e =
     let p5 = pass-line (any waits above) (AfterWaiting n) _ q e in
     go (rightFields (length (fields l))) (readFields n 1 noRow (fields l)) refl refl (p5 .0) (p5 .1)
@@ -150,7 +150,7 @@ line-back n above l q e =
         let i = fields-back (fields l) n r c g in
         rw (← k .0) (record {
           first = w;
-          written = sym (joined-fields l) ∙ rw (i .written);
+          written = line-written l r (i .written);
           right = right-row r (i .name) (i .numbers) (i .count) (k .1) (k .2);
           new = k .3;
         })
@@ -159,7 +159,7 @@ line-back n above l q e =
 record Rows (above : Table) (ls : List (List ℕ)) (t : Table) : Type 0 where
   rows : Table
   whole : t ≡ above ++ rows
-  written : ls ≡ map lineOf rows
+  written : map ended ls ≡ map lineText rows
   right : rightRows above rows ≡ true
   few : length t ≤ mostRows
 
@@ -203,9 +203,10 @@ read-back s t e =
 
 -- THE TEXT THAT WAS READ IS THE TABLE'S TEXT
 pub text-back : (s : List ℕ) (t : Table) → readText s ≡ accepted t → tableText t ≡ s
+unfolding tableText
 text-back s t e =
     let p = read-back s t e in
-    rw (p .2 .whole) (table-lines (p .2 .rows) ∙ rw (← p .2 .written) (unlines-lines s (p .0) (p .1)))
+    rw (p .2 .whole) (ap joined (sym (p .2 .written)) ∙ lines-text s (p .0) (p .1))
 
 -- EVERY ACCEPTED TEXT READS TO A RIGHT TABLE
 pub text-right : (s : List ℕ) (t : Table) → readText s ≡ accepted t → rightTable t ≡ true
@@ -213,7 +214,7 @@ unfolding rightTable
 text-right s t e =
     let p = read-back s t e in
     let n : 0 < length s = omega (arith, p .0) in
-    let k : 1 ≤ length (p .2 .rows) = omega (arith, lines-some s n, ap length (p .2 .written), length-map (p .2 .rows) lineOf) in
+    let k : 1 ≤ length (p .2 .rows) = omega (arith, lines-some s n, length-map (lines s) ended, ap length (p .2 .written), length-map (p .2 .rows) lineText) in
     rw (p .2 .whole) (and-both (le-leb 1 (length (p .2 .rows)) k) (and-both (le-leb (length (p .2 .rows)) mostRows (rw (p .2 .whole) at (p .2 .few))) (p .2 .right)))
 
 -- A TABLE HAS EXACTLY ONE TEXT

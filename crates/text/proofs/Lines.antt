@@ -1,34 +1,39 @@
 -- The text of a table, line by line and field by field.
-use mathlib.Core.Path.{_≡_, refl, ap, _∙_}
+use mathlib.Core.Path.{_≡_, refl, sym, ap, _∙_}
 use mathlib.Core.Bool.{true, false, not}
-use mathlib.Core.List.{List, [], _∷_, _++_, map, append-assoc, append-nil}
-use Prim.Native.Nat.{ℕ, _+_, _≤_}
-use native.Mathlib.Omega.{arith}
+use mathlib.Core.List.{List, [], _∷_, _++_, map}
+use Prim.Native.Nat.{ℕ, _≤_}
 use lib.Dec.{eqb}
-use lib.ListN.{length, length-append}
+use lib.ListN.{length, drop}
 use borrow.Author.Tests.{le-leb}
 use Rattle.words.specs.Choice.{_and_, _or_}
-use Rattle.words.specs.Lists.{sum, all}
+use Rattle.words.specs.Lists.{sum, all, below}
 use Rattle.words.proofs.Choice.{and-parts, and-both}
-use Rattle.words.proofs.Lists.{lacks, all-append}
+use Rattle.words.proofs.Lists.{lacks}
+use Rattle.words.proofs.Filled.{all-below}
 use Rattle.decimal.specs.Decimal.{digits, digit}
 use Rattle.decimal.proofs.Reading.{all-digits}
+use Rattle.fields.specs.Fields.{lineFeed, tab, fieldsText, line, joined}
+use Rattle.fields.proofs.Lines.{fields-all}
 use Rattle.table.specs.Limits.{largestNumber}
-use Rattle.table.specs.Paper.{Row, Table, nameByte, rightName, rightNumber, rightCount, rightRow}
+use Rattle.table.specs.Paper.{Row, Table, rowAt, nameByte, rightName, rightNumber, rightCount, rightRow}
 use Rattle.table.proofs.Rows.{number-some}
 use Rattle.table.proofs.Rules.{row-period, row-deadline, row-times}
-use Rattle.fields.specs.Fields.{lineFeed, tab}
 use Rattle.text.specs.Split.{lines, fields}
-use Rattle.text.specs.Write.{numbersText, lineText, tableText}
-use Rattle.text.proofs.Split.{tabbed, joined, unlines, lacks-cons, lacks-by, fields-one, fields-more, lines-feed}
+use Rattle.text.specs.Write.{lineText, tableText}
+use Rattle.text.proofs.Split.{ended, lacks-by, fields-text, lines-ended, fields-parted}
+
+-- the numbers of a row
+abbrev pub numbersOf : Row → List ℕ
+numbersOf r = r .period ∷ r .deadline ∷ r .times
 
 -- a row's rules
 
-pub row-numbers : (r : Row) → rightRow r ≡ true → all rightNumber (r .period ∷ r .deadline ∷ r .times) ≡ true
+pub row-numbers : (r : Row) → rightRow r ≡ true → all rightNumber (numbersOf r) ≡ true
 unfolding all
 row-numbers r e = and-both (row-period r e) (and-both (row-deadline r e) (row-times r e))
 
-pub right-row : (r : Row) → rightName (r .name) ≡ true → all rightNumber (r .period ∷ r .deadline ∷ r .times) ≡ true
+pub right-row : (r : Row) → rightName (r .name) ≡ true → all rightNumber (numbersOf r) ≡ true
     → rightCount (length (r .times)) ≡ true → r .deadline ≤ r .period → sum (r .times) ≤ r .deadline → rightRow r ≡ true
 unfolding rightRow all
 right-row r n a c h k =
@@ -47,38 +52,22 @@ name-all x e = and-parts (and-parts e .1) .1
 -- the fields of a row, and its line without the line feed
 
 unfoldable pub fieldsOf : Row → List (List ℕ)
-fieldsOf r = r .name ∷ map digits (r .period ∷ r .deadline ∷ r .times)
+fieldsOf r = r .name ∷ map digits (numbersOf r)
 
 unfoldable pub lineOf : Row → List ℕ
-lineOf r = joined (fieldsOf r)
+lineOf r = r .name ++ fieldsText (map digits (numbersOf r))
 
-numbers-tabbed : (ns : List ℕ) → numbersText ns ≡ tabbed (map digits ns)
-unfolding numbersText tabbed
-numbers-tabbed [] = refl
-numbers-tabbed (n ∷ ns) = rw (numbers-tabbed ns)
+-- a line that has a row's fields is the row's line
+pub line-written : (l : List ℕ) (r : Row) → fields l ≡ fieldsOf r → ended l ≡ lineText r
+unfolding fieldsText fieldsOf lineText line
+line-written l r e = ap (λ (s : List ℕ). ended (drop 1 s)) (sym (fields-text l) ∙ ap fieldsText e)
 
-line-fed : (r : Row) (rest : List ℕ) → lineText r ++ rest ≡ lineOf r ++ lineFeed ∷ rest
-unfolding lineText lineOf fieldsOf joined
-line-fed r rest = rw (numbers-tabbed (r .period ∷ r .deadline ∷ r .times)) (simp append-assoc)
-
-pub table-lines : (t : Table) → tableText t ≡ unlines (map lineOf t)
-unfolding tableText unlines
-table-lines [] = refl
-table-lines (r ∷ rs) = line-fed r (tableText rs) ∙ rw (table-lines rs)
-
-pub length-line : (r : Row) → length (lineText r) ≡ length (r .name) + length (numbersText (r .period ∷ r .deadline ∷ r .times)) + 1
-unfolding lineText
-length-line r =
-    let ns = r .period ∷ r .deadline ∷ r .times in
-    length-append (r .name ++ numbersText ns) (lineFeed ∷ []) ∙ omega (arith, length-append (r .name) (numbersText ns))
+-- the text of a table, line by line
+pub table-lines : (t : Table) → tableText t ≡ joined (map (λ k. lineText (rowAt t k)) (below (length t)))
+unfolding tableText
+table-lines t = ap joined (all-below lineText t _)
 
 -- no field of a row has a tab, and no line a line feed
-
-lacks-digits : (b n : ℕ) → digit b ≡ false → lacks b (digits n) ≡ true
-lacks-digits b n f = lacks-by digit b (digits n) f (all-digits n)
-
-lacks-name : (b : ℕ) (x : List ℕ) → nameByte b ≡ false → rightName x ≡ true → lacks b x ≡ true
-lacks-name b x f e = lacks-by nameByte b x f (name-all x e)
 
 no-tab : (nameByte tab ≡ false) × (digit tab ≡ false)
 unfolding nameByte digit _and_ _or_
@@ -88,30 +77,23 @@ no-feed : (nameByte lineFeed ≡ false) × (digit lineFeed ≡ false)
 unfolding nameByte digit _and_ _or_
 no-feed = (refl, refl)
 
-fields-numbers : (ns : List ℕ) (x : List ℕ) → lacks tab x ≡ true → fields (x ++ tabbed (map digits ns)) ≡ x ∷ map digits ns
-unfolding tabbed
-fields-numbers [] x f = rw (append-nil x) (fields-one x f)
-fields-numbers (n ∷ ns) x f =
-    fields-more x (digits n ++ tabbed (map digits ns)) f
-    ∙ ap (λ (l : List (List ℕ)). x ∷ l) (fields-numbers ns (digits n) (lacks-digits tab n (no-tab .1)))
+-- a row's fields have no byte that neither a name nor a number may have
+fields-lack : (b : ℕ) → (nameByte b ≡ false) × (digit b ≡ false) → (r : Row) → rightName (r .name) ≡ true → all (lacks b) (fieldsOf r) ≡ true
+unfolding all fieldsOf
+fields-lack b f r e = and-both (lacks-by nameByte b (r .name) (f .0) (name-all (r .name) e)) (numbers (numbersOf r))
+  where
+    numbers : (ns : List ℕ) → all (lacks b) (map digits ns) ≡ true
+    numbers [] = refl
+    numbers (n ∷ ns) = and-both (lacks-by digit b (digits n) (f .1) (all-digits n)) (numbers ns)
 
 pub fields-line : (r : Row) → rightName (r .name) ≡ true → fields (lineOf r) ≡ fieldsOf r
-unfolding lineOf fieldsOf joined
-fields-line r e = fields-numbers (r .period ∷ r .deadline ∷ r .times) (r .name) (lacks-name tab (r .name) (no-tab .0) e)
-
-numbers-lack : (ns : List ℕ) → lacks lineFeed (tabbed (map digits ns)) ≡ true
-unfolding tabbed all
-numbers-lack [] = refl
-numbers-lack (n ∷ ns) =
-    lacks-cons lineFeed tab (digits n ++ tabbed (map digits ns)) (λ q. omega arith)
-    (all-append (λ x. not (eqb x lineFeed)) (digits n) (tabbed (map digits ns)) (lacks-digits lineFeed n (no-feed .1)) (numbers-lack ns))
+unfolding lineOf fieldsOf
+fields-line r e = fields-parted (map digits (numbersOf r)) (r .name) (fields-lack tab no-tab r e)
 
 line-lacks : (r : Row) → rightName (r .name) ≡ true → lacks lineFeed (lineOf r) ≡ true
-unfolding lineOf fieldsOf joined
-line-lacks r e =
-    all-append (λ x. not (eqb x lineFeed)) (r .name) (tabbed (map digits (r .period ∷ r .deadline ∷ r .times))) (lacks-name lineFeed (r .name) (no-feed .0) e)
-    (numbers-lack (r .period ∷ r .deadline ∷ r .times))
+unfolding lineOf fieldsOf fieldsText all
+line-lacks r e = and-parts (fields-all (λ x. not (eqb x lineFeed)) (fieldsOf r) refl (fields-lack lineFeed no-feed r e)) .1
 
-pub lines-line : (r : Row) (ls : List (List ℕ)) → rightName (r .name) ≡ true → lines (unlines (lineOf r ∷ ls)) ≡ lineOf r ∷ lines (unlines ls)
-unfolding unlines
-lines-line r ls e = lines-feed (lineOf r) (unlines ls) (line-lacks r e)
+pub lines-line : (r : Row) (rest : List ℕ) → rightName (r .name) ≡ true → lines (lineText r ++ rest) ≡ lineOf r ∷ lines rest
+unfolding lineText line lineOf
+lines-line r rest e = lines-ended (lineOf r) rest (line-lacks r e)

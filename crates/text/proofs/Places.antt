@@ -9,21 +9,21 @@ use lib.ListN.{length, getD, length-append}
 use borrow.Author.Tests.{eqb-false}
 use Rattle.words.specs.Choice.{if_then_else_}
 use Rattle.words.specs.Lists.{sum, any}
-use Rattle.decimal.specs.Decimal.{numberOf}
+use Rattle.decimal.specs.Decimal.{readNumber}
 use Rattle.decimal.specs.declared.Number.{Number}
 use Rattle.decimal.specs.declared.Number.the-variants.{Is, No}
 use Rattle.table.specs.Limits.{mostRows, mostTimes, largestNumber, longestText}
 use Rattle.table.specs.Paper.{Row, Table, rightName, waits, named}
 use Rattle.table.proofs.Rules.{count-most}
 use Rattle.refusals.specs.declared.Refusal.{Refusal}
-use Rattle.refusals.specs.Refusals.{numberOf as refusalNumber, lineOf, fieldOf}
+use Rattle.refusals.specs.Refusals.{numberOf, lineOf, fieldOf}
 use Rattle.fields.specs.Fields.{lineFeed}
 use Rattle.text.specs.Split.{lines, fields}
 use Rattle.text.specs.Read.{Answer, accepted, refused, Line, got, bad, fixedFields, rightFields, noRow, withName, withNumber, onNumber, onLine, readFields, checkRow, readLine, readLines, readText}
 
 -- a refusal of a text: below 20, on one of the lines that a text may have or the next, and at one of a line's fields; 0 is none of them
 pub record Place (x : Refusal) : Type 0 where
-  pub number : refusalNumber x < 20
+  pub number : numberOf x < 20
   pub line : lineOf x ≤ mostRows + 1
   pub field : fieldOf x ≤ fixedFields + mostTimes
 
@@ -59,7 +59,7 @@ fields-place [] n f r h k = tt
 fields-place (x ∷ xs) n f r h k =
     if-both LinePlace (eqb f 1) _ _
     (λ e. if-both LinePlace (rightName x) _ _ (λ e. fields-place xs n (f + 1) (withName r x) h (omega arith)) (λ e. omega arith))
-    (λ e. number-both LinePlace (numberOf 1 largestNumber x) _ _ (λ v. fields-place xs n (f + 1) (withNumber r f v) h (omega arith)) (omega arith))
+    (λ e. number-both LinePlace (readNumber 1 largestNumber x) _ _ (λ v. fields-place xs n (f + 1) (withNumber r f v) h (omega arith)) (omega arith))
 
 -- 9, 10 and 11 name a fixed field, or none
 check-place : (n : ℕ) (above : Table) (r : Row) → n ≤ mostRows + 1 → LinePlace (checkRow n above r)

@@ -10,7 +10,7 @@ use borrow.Author.Tests.{ltb-false}
 use Rattle.words.specs.Lists.{sum, all, any, upTo, padded}
 use Rattle.words.proofs.Choice.{and-both}
 use Rattle.words.proofs.Lists.{all-append, any-last}
-use Rattle.decimal.specs.Decimal.{numberOf}
+use Rattle.decimal.specs.Decimal.{readNumber}
 use Rattle.decimal.specs.declared.Number.the-variants.{Is, No}
 use Rattle.decimal.proofs.Reading.{digits-number}
 use Rattle.table.specs.declared.Row.{Row as RowValue}
@@ -134,7 +134,7 @@ module _ {line : List ℕ} {n : ℕ} {w : RowValue} {f p q : ℕ} (a : AtTab lin
   pub refused-name : f ≡ 1 → rightName (fieldAt line p q) ≡ false → readFields n 1 noRow (fields line) ≡ bad (BadName n)
   refused-name h e = opened ∙ bad-name n f (rowOf w) (fieldAt line p q) _ h e
 
-  pub refused-number : (f ≡ 1 → ⊥) → numberOf 1 largestNumber (fieldAt line p q) ≡ No → readFields n 1 noRow (fields line) ≡ bad (BadNumber n f)
+  pub refused-number : (f ≡ 1 → ⊥) → readNumber 1 largestNumber (fieldAt line p q) ≡ No → readFields n 1 noRow (fields line) ≡ bad (BadNumber n f)
   refused-number h e = opened ∙ bad-number n f (rowOf w) (fieldAt line p q) _ h e
 
   -- the next field
@@ -157,7 +157,7 @@ module _ {line : List ℕ} {n : ℕ} {w : RowValue} {f p q : ℕ} (a : AtTab lin
       let s = stands u r (j ∙ value-name w (fieldAt line p q) (a .field .kept)) (name-lacks (fieldAt line p q) e) (row-lacks w .1) in
       next u r (s .0) (s .1) (a .field .times ∙ omega arith) (next-name n f (rowOf w) (fieldAt line p q) _ h e)
 
-  pub after-number : (m : ℕ) → (f ≡ 1 → ⊥) → numberOf 1 largestNumber (fieldAt line p q) ≡ Is m → (u : RowValue)
+  pub after-number : (m : ℕ) → (f ≡ 1 → ⊥) → readNumber 1 largestNumber (fieldAt line p q) ≡ Is m → (u : RowValue)
       → u ≡ rowValue (withNumber (rowOf w) f m) → AtField line n u (f + 1) (q + 1)
   after-number m h e u j =
       let b : 2 ≤ f = omega (arith, a .field .some, h) in

@@ -1,7 +1,7 @@
 -- Laws of lines and fields: how a reader finds each, how many there are, and that put together again they are the text.
 use mathlib.Core.Path.{_≡_, refl, sym, ap, _∙_}
-use mathlib.Core.Bool.{Bool, true, false, false≢true}
-use mathlib.Core.List.{List, [], _∷_, _++_}
+use mathlib.Core.Bool.{Bool, true, false, not, false≢true}
+use mathlib.Core.List.{List, [], _∷_, _++_, map}
 use Prim.Native.Nat.{ℕ, suc, _+_, _-_, _≤_, _<_}
 use native.Mathlib.Omega.{arith}
 use native.Mathlib.Numerals.{add-one}
@@ -14,7 +14,7 @@ use Rattle.words.specs.Choice.{if_then_else_}
 use Rattle.words.specs.Lists.{all, upTo}
 use Rattle.words.proofs.Choice.{and-parts, and-both}
 use Rattle.words.proofs.Lists.{lacks, length-upTo, take-upTo}
-use Rattle.fields.specs.Fields.{lineFeed, tab}
+use Rattle.fields.specs.Fields.{lineFeed, tab, fieldsText, joined}
 use Rattle.text.specs.Split.{onFirst, lines, fields}
 
 -- the bytes behind the first b
@@ -38,16 +38,11 @@ lacks-parts : (b x : ℕ) (xs : List ℕ) → lacks b (x ∷ xs) ≡ true → (x
 unfolding all
 lacks-parts b x xs e = (eqb-false x b (not-true (eqb x b) (and-parts e .0)), and-parts e .1)
 
-pub lacks-cons : (b x : ℕ) (xs : List ℕ) → (x ≡ b → ⊥) → lacks b xs ≡ true → lacks b (x ∷ xs) ≡ true
-unfolding all
-lacks-cons b x xs n e = and-both (simp (ne-eqb x b n)) e
-
 -- where all bytes pass a test that b fails, none is b
 pub lacks-by : (test : ℕ → Bool) (b : ℕ) (xs : List ℕ) → test b ≡ false → all test xs ≡ true → lacks b xs ≡ true
 unfolding all
 lacks-by test b [] f e = refl
-lacks-by test b (x ∷ xs) f e =
-    lacks-cons b x xs (λ q. false≢true (sym f ∙ rw (← q) (and-parts e .0))) (lacks-by test b xs f (and-parts e .1))
+lacks-by test b (x ∷ xs) f e = and-both (ap not (ne-eqb x b (λ q. false≢true (sym f ∙ rw (← q) (and-parts e .0))))) (lacks-by test b xs f (and-parts e .1))
 
 -- what was found lies within the text
 pub found-le : (b : ℕ) (s : List ℕ) (at e : ℕ) → at ≤ length s → e ≡ at + length (upTo b (drop at s)) → e ≤ length s
@@ -152,82 +147,53 @@ pub fields-end : (s : List ℕ) (i : ℕ) → length s ≤ i → length (fields 
 unfolding fields
 fields-end s i h = rw (drop-of-length-le s h)
 
--- the fields of a line put together again
+-- the fields of a line put together again, a tab before each: the line behind a tab
 
--- fields, a tab before each
-unfoldable pub tabbed : List (List ℕ) → List ℕ
-tabbed [] = []
-tabbed (x ∷ xs) = tab ∷ x ++ tabbed xs
-
--- fields, a tab between each two
-unfoldable pub joined : List (List ℕ) → List ℕ
-joined [] = []
-joined (x ∷ xs) = x ++ tabbed xs
-
-joined-first : (x : ℕ) (ls : List (List ℕ)) → joined (onFirst x ls) ≡ x ∷ joined ls
-unfolding joined onFirst tabbed
-joined-first x [] = refl
-joined-first x (l ∷ ls) = refl
-
-tabbed-joined : (ls : List (List ℕ)) → 0 < length ls → tabbed ls ≡ tab ∷ joined ls
-unfolding joined tabbed
-tabbed-joined [] h = absurd (omega arith)
-tabbed-joined (l ∷ ls) h = refl
-
-pub joined-fields : (s : List ℕ) → joined (fields s) ≡ s
-unfolding fields joined tabbed
-joined-fields [] = refl
-joined-fields (x ∷ s) = go (eqb x tab) refl (joined-fields s)
+pub fields-text : (s : List ℕ) → fieldsText (fields s) ≡ tab ∷ s
+unfolding fields fieldsText onFirst
+fields-text [] = refl
+fields-text (x ∷ s) = go (eqb x tab) refl (fields s) (fields-text s)
   where
-    go : (t : Bool) → eqb x tab ≡ t → joined (fields s) ≡ s → joined (if t then [] ∷ fields s else onFirst x (fields s)) ≡ x ∷ s
-    go true e h = tabbed-joined (fields s) (fields-some s) ∙ rw (h, eqb-true x tab e)
-    go false e h = joined-first x (fields s) ∙ ap (λ (l : List ℕ). x ∷ l) h
+    go : (t : Bool) → eqb x tab ≡ t → (ls : List (List ℕ)) → fieldsText ls ≡ tab ∷ s → fieldsText (if t then [] ∷ ls else onFirst x ls) ≡ tab ∷ x ∷ s
+    go true e ls h = rw (eqb-true x tab e) (ap (λ (l : List ℕ). tab ∷ l) h)
+    go false e [] h = absurd (omega (arith, ap length h))
+    go false e (l ∷ ls) h = ap (λ (r : List ℕ). tab ∷ x ∷ drop 1 r) h
 
 -- the lines of a text put together again
 
--- lines, a line feed behind each
-unfoldable pub unlines : List (List ℕ) → List ℕ
-unlines [] = []
-unlines (l ∷ ls) = l ++ lineFeed ∷ unlines ls
-
-unlines-first : (x : ℕ) (ls : List (List ℕ)) → 0 < length ls → unlines (onFirst x ls) ≡ x ∷ unlines ls
-unfolding unlines onFirst
-unlines-first x [] h = absurd (omega arith)
-unlines-first x (l ∷ ls) h = refl
+-- a line with its line feed
+abbrev pub ended : List ℕ → List ℕ
+ended l = l ++ (lineFeed ∷ [])
 
 pub lines-some : (s : List ℕ) → 0 < length s → 0 < length (lines s)
 lines-some s h = rw (lines-step s h) (omega arith)
 
-pub unlines-lines : (s : List ℕ) → (length s ≡ 0 → ⊥) → getD s (length s - 1) 0 ≡ lineFeed → unlines (lines s) ≡ s
-unfolding lines unlines onFirst
-unlines-lines [] h e = absurd (h refl)
-unlines-lines (x ∷ []) h e = go (eqb x lineFeed) refl
-  where
-    go : (t : Bool) → eqb x lineFeed ≡ t → unlines (if t then [] ∷ [] else onFirst x []) ≡ x ∷ []
-    go true q = rw (eqb-true x lineFeed q)
-    go false q = absurd (eqb-false x lineFeed q e)
-unlines-lines (x ∷ y ∷ s) h e =
+pub lines-text : (s : List ℕ) → (length s ≡ 0 → ⊥) → getD s (length s - 1) 0 ≡ lineFeed → joined (map ended (lines s)) ≡ s
+unfolding lines joined onFirst
+lines-text [] h e = absurd (h refl)
+lines-text (x ∷ []) h e = rw e
+lines-text (x ∷ y ∷ s) h e =
     let k : suc (suc (length s)) - 1 ≡ suc (suc (length s) - 1) = omega arith in
-    go (eqb x lineFeed) refl (unlines-lines (y ∷ s) (λ z. omega arith) (rw k at e))
+    go (eqb x lineFeed) refl (lines (y ∷ s)) (lines-text (y ∷ s) (λ z. omega arith) (rw k at e))
   where
-    go : (t : Bool) → eqb x lineFeed ≡ t → unlines (lines (y ∷ s)) ≡ y ∷ s
-        → unlines (if t then [] ∷ lines (y ∷ s) else onFirst x (lines (y ∷ s))) ≡ x ∷ y ∷ s
-    go true q i = rw (eqb-true x lineFeed q) (ap (λ (l : List ℕ). lineFeed ∷ l) i)
-    go false q i = unlines-first x (lines (y ∷ s)) (lines-some (y ∷ s) (omega arith)) ∙ ap (λ (l : List ℕ). x ∷ l) i
+    go : (t : Bool) → eqb x lineFeed ≡ t → (ls : List (List ℕ)) → joined (map ended ls) ≡ y ∷ s → joined (map ended (if t then [] ∷ ls else onFirst x ls)) ≡ x ∷ y ∷ s
+    go true q ls i = rw (eqb-true x lineFeed q) (ap (λ (l : List ℕ). lineFeed ∷ l) i)
+    go false q [] i = absurd (omega (arith, ap length i))
+    go false q (l ∷ ls) i = ap (λ (r : List ℕ). x ∷ r) i
 
 -- splitting what was put together
 
-pub lines-feed : (l rest : List ℕ) → lacks lineFeed l ≡ true → lines (l ++ lineFeed ∷ rest) ≡ l ∷ lines rest
+pub lines-ended : (l rest : List ℕ) → lacks lineFeed l ≡ true → lines (ended l ++ rest) ≡ l ∷ lines rest
 unfolding lines onFirst
-lines-feed [] rest f = refl
-lines-feed (x ∷ l) rest f = rw (ne-eqb x lineFeed (lacks-parts lineFeed x l f .0), lines-feed l rest (lacks-parts lineFeed x l f .1))
+lines-ended [] rest f = refl
+lines-ended (x ∷ l) rest f = rw (ne-eqb x lineFeed (lacks-parts lineFeed x l f .0), lines-ended l rest (lacks-parts lineFeed x l f .1))
 
-pub fields-one : (x : List ℕ) → lacks tab x ≡ true → fields x ≡ x ∷ []
+field-first : (f rest : List ℕ) (ls : List (List ℕ)) → lacks tab f ≡ true → fields rest ≡ [] ∷ ls → fields (f ++ rest) ≡ f ∷ ls
 unfolding fields onFirst
-fields-one [] f = refl
-fields-one (y ∷ x) f = rw (ne-eqb y tab (lacks-parts tab y x f .0), fields-one x (lacks-parts tab y x f .1))
+field-first [] rest ls e h = h
+field-first (x ∷ f) rest ls e h = rw (ne-eqb x tab (lacks-parts tab x f e .0), field-first f rest ls (lacks-parts tab x f e .1) h)
 
-pub fields-more : (x rest : List ℕ) → lacks tab x ≡ true → fields (x ++ tab ∷ rest) ≡ x ∷ fields rest
-unfolding fields onFirst
-fields-more [] rest f = refl
-fields-more (y ∷ x) rest f = rw (ne-eqb y tab (lacks-parts tab y x f .0), fields-more x rest (lacks-parts tab y x f .1))
+pub fields-parted : (fs : List (List ℕ)) (f : List ℕ) → all (lacks tab) (f ∷ fs) ≡ true → fields (f ++ fieldsText fs) ≡ f ∷ fs
+unfolding fields fieldsText all
+fields-parted [] f e = field-first f [] [] (and-parts e .0) refl
+fields-parted (g ∷ fs) f e = field-first f (tab ∷ g ++ fieldsText fs) (g ∷ fs) (and-parts e .0) (ap (λ (l : List (List ℕ)). [] ∷ l) (fields-parted fs g (and-parts e .1)))

@@ -7,7 +7,7 @@ use lib.Dec.{ltb}
 use lib.ListN.{length, getD}
 use borrow.Author.Tests.{eq-eqb, ne-eqb, lt-ltb, le-ltb}
 use Rattle.words.specs.Lists.{sum, any}
-use Rattle.decimal.specs.Decimal.{numberOf}
+use Rattle.decimal.specs.Decimal.{readNumber}
 use Rattle.decimal.specs.declared.Number.the-variants.{Is, No}
 use Rattle.table.specs.Limits.{mostRows, largestNumber, longestText}
 use Rattle.table.specs.Paper.{Row, Table, rightName, waits, named}
@@ -32,11 +32,11 @@ module _ (n f : ℕ) (r : Row) where
     unfolding readFields
     next-name h e = rw (eq-eqb f 1 h, e)
 
-    pub bad-number : (f ≡ 1 → ⊥) → numberOf 1 largestNumber x ≡ No → readFields n f r (x ∷ xs) ≡ bad (BadNumber n f)
+    pub bad-number : (f ≡ 1 → ⊥) → readNumber 1 largestNumber x ≡ No → readFields n f r (x ∷ xs) ≡ bad (BadNumber n f)
     unfolding readFields
     bad-number h e = rw (ne-eqb f 1 h, e)
 
-    pub next-number : (v : ℕ) → (f ≡ 1 → ⊥) → numberOf 1 largestNumber x ≡ Is v → readFields n f r (x ∷ xs) ≡ readFields n (f + 1) (withNumber r f v) xs
+    pub next-number : (v : ℕ) → (f ≡ 1 → ⊥) → readNumber 1 largestNumber x ≡ Is v → readFields n f r (x ∷ xs) ≡ readFields n (f + 1) (withNumber r f v) xs
     unfolding readFields
     next-number v h e = rw (ne-eqb f 1 h, e)
 

@@ -1,4 +1,3 @@
 pub mod Split
 pub mod Read
 pub mod Write
-pub mod Parts

@@ -6,7 +6,7 @@ use lib.Dec.{eqb, ltb}
 use lib.ListN.{length, getD}
 use Rattle.words.specs.Choice.{if_then_else_}
 use Rattle.words.specs.Lists.{sum, any}
-use Rattle.decimal.specs.Decimal.{numberOf}
+use Rattle.decimal.specs.Decimal.{readNumber}
 use Rattle.decimal.specs.declared.Number.{Number}
 use Rattle.decimal.specs.declared.Number.the-variants.{Is, No}
 use Rattle.table.specs.Limits.{mostRows, largestNumber, longestText}
@@ -63,7 +63,7 @@ readFields n f r [] = got r
 readFields n f r (x ∷ xs) =
     if eqb f 1
     then (if rightName x then readFields n (f + 1) (withName r x) xs else bad (BadName n))
-    else onNumber (numberOf 1 largestNumber x) (λ v. readFields n (f + 1) (withNumber r f v) xs) (bad (BadNumber n f))
+    else onNumber (readNumber 1 largestNumber x) (λ v. readFields n (f + 1) (withNumber r f v) xs) (bad (BadNumber n f))
 
 -- 9, 10 and 11: the row of line n, below the rows above it
 unfoldable pub checkRow : ℕ → Table → Row → Line

@@ -1,5 +1,5 @@
 -- The text of a table, and what writing it into a lent buffer gives.
-use mathlib.Core.List.{List, [], _∷_, _++_}
+use mathlib.Core.List.{List, _∷_, map}
 use Prim.Native.Nat.{ℕ}
 use lib.Dec.{leb}
 use lib.ListN.{length}
@@ -12,21 +12,15 @@ use Rattle.table.specs.declared.Table.{Table as TableValue}
 use Rattle.refusals.specs.declared.Refusal.the-variants.{BadTable, NoRoom}
 use Rattle.text.specs.declared.Written.{Written}
 use Rattle.text.specs.declared.Written.the-variants.{Bytes, Refused}
-use Rattle.fields.specs.Fields.{lineFeed, tab}
+use Rattle.fields.specs.Fields.{line, joined}
 
--- numbers, a tab before each
-unfoldable pub numbersText : List ℕ → List ℕ
-numbersText [] = []
-numbersText (n ∷ ns) = tab ∷ digits n ++ numbersText ns
-
--- a row's line: name, T, D, the times, and the line feed
+-- a row's line: name, T, D, and the times
 unfoldable pub lineText : Row → List ℕ
-lineText r = r .name ++ numbersText (r .period ∷ r .deadline ∷ r .times) ++ (lineFeed ∷ [])
+lineText r = line (r .name) (map digits (r .period ∷ r .deadline ∷ r .times))
 
 -- a table's text: one line a row
 unfoldable pub tableText : Table → List ℕ
-tableText [] = []
-tableText (r ∷ rs) = lineText r ++ tableText rs
+tableText t = joined (map lineText t)
 
 -- the length of what is to be put into a buffer; 22 where it is too short
 abbrev pub lengthIn : List ℕ → List ℕ → Written

@@ -6,14 +6,15 @@ ghost use Prim.Native.Nat.{suc, _+_, _-_, _≤_, _<_};
 ghost use lib.ListN.{length, take, drop};
 ghost use Rattle.words.specs.Lists.{upTo, padded};
 ghost use Rattle.words.specs.Buffer.{over};
+ghost use Rattle.decimal.specs.Decimal.{digits};
 ghost use Rattle.table.specs.Limits.{mostTimes, longestName};
 ghost use Rattle.table.specs.Paper.{rightRow};
 ghost use Rattle.table.specs.Value.{rowOf, rowValue, tableOf, wellFormed};
 ghost use Rattle.ticks.specs.Ticks.{ticks};
+ghost use Rattle.fields.specs.Fields.{fieldsText};
 ghost use Rattle.text.specs.Split.{fields};
 ghost use Rattle.text.specs.Read.{fixedFields, rightFields, withNumber, refused as refusedText, readText, readingOf};
-ghost use Rattle.text.specs.Parts.{headText};
-ghost use Rattle.text.specs.Write.{numbersText, lineText, tableText, written, writtenInto};
+ghost use Rattle.text.specs.Write.{lineText, tableText, written, writtenInto};
 use decimal::Number;
 use fields::LINE_FEED;
 use fields::TAB;
@@ -210,8 +211,8 @@ pub fn read(text: &[u8]) -> Reading
 
 // Writes the first so many times of a row, a tab before each.
 fn write_times(times: [Length; Table::TIMES], count: usize, out: &mut [u8]) -> usize
-    requires { ⌜ (count ≤ mostTimes) × (length (numbersText (take count (map ticks times))) ≤ length (now out)) ⌝ }
-    ensures { λ r. ⌜ (r ≡ length (numbersText (take count (map ticks times)))) × (now (out .exit) ≡ over (numbersText (take count (map ticks times))) (now (out .entry))) ⌝ }
+    requires { ⌜ (count ≤ mostTimes) × (length (fieldsText (map digits (take count (map ticks times)))) ≤ length (now out)) ⌝ }
+    ensures { λ r. ⌜ (r ≡ length (fieldsText (map digits (take count (map ticks times))))) × (now (out .exit) ≡ over (fieldsText (map digits (take count (map ticks times)))) (now (out .entry))) ⌝ }
 {
     let mut at: usize = 0;
     let mut i: usize = 0;
@@ -222,27 +223,18 @@ fn write_times(times: [Length; Table::TIMES], count: usize, out: &mut [u8]) -> u
     at
 }
 
-// Writes a row's name, T and D.
-fn write_head(row: Row, out: &mut [u8]) -> usize
-    requires { ⌜ length (headText (rowOf row)) ≤ length (now out) ⌝ }
-    ensures { λ r. ⌜ (r ≡ length (headText (rowOf row))) × (now (out .exit) ≡ over (headText (rowOf row)) (now (out .entry))) ⌝ }
-{
-    let name = row.name;
-    let len = row.name_len();
-    let mut at = bytes::copy(&name[..len], out);
-    at += fields::write_number(row.period.0, &mut out[at..]);
-    at += fields::write_number(row.deadline.0, &mut out[at..]);
-    at
-}
-
 // Writes a row's line.
 fn write_line(row: Row, out: &mut [u8]) -> usize
     requires { ⌜ length (lineText (rowOf row)) ≤ length (now out) ⌝ }
     ensures { λ r. ⌜ (r ≡ length (lineText (rowOf row))) × (now (out .exit) ≡ over (lineText (rowOf row)) (now (out .entry))) ⌝ }
 {
+    let name = row.name;
+    let len = row.name_len();
     let times = row.times;
     let count = row.count();
-    let mut at = write_head(row, out);
+    let mut at = bytes::copy(&name[..len], out);
+    at += fields::write_number(row.period.0, &mut out[at..]);
+    at += fields::write_number(row.deadline.0, &mut out[at..]);
     at += write_times(times, count, &mut out[at..]);
     out[at] = LINE_FEED;
     at + 1

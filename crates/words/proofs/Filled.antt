@@ -6,7 +6,7 @@ use native.Mathlib.Omega.{arith}
 use native.Mathlib.Numerals.{add-one}
 use native.Mathlib.Decide.{decLe}
 use lib.ListN.{length, take, getD, set, replicate, length-map, length-append}
-use lib.Seq.{take-all, take-suc, length-take-le, set-at, append-snoc, getD-append-seam}
+use lib.Seq.{take-all, take-length, take-suc, length-take-le, set-at, append-snoc, getD-append-seam}
 use Rattle.words.specs.Lists.{below}
 
 map-snoc : {A B : Type 0} (f : A → B) (xs : List A) (x : A) → map f (xs ++ (x ∷ [])) ≡ map f xs ++ (f x ∷ [])
@@ -28,6 +28,17 @@ unfolding below
 below-same f g zero h = refl
 below-same f g (suc n) h =
     map-below f n ∙ ap (λ l. l ++ (f n ∷ [])) (below-same f g n (λ k l. h k (omega arith))) ∙ ap (λ x. map g (below n) ++ (x ∷ [])) (h n (omega arith)) ∙ sym (map-below g n)
+
+-- the first n elements of a list are those at 0, 1, 2, ..
+pub take-below : {A B : Type 0} (f : A → B) (xs : List A) (d : A) (n : ℕ) → n ≤ length xs → map f (take n xs) ≡ map (λ k. f (getD xs k d)) (below n)
+unfolding below
+take-below f xs d zero h = refl
+take-below f xs d (suc n) h =
+    ap (map f) (take-suc xs n d h) ∙ map-snoc f (take n xs) (getD xs n d) ∙ ap (λ l. l ++ (f (getD xs n d) ∷ [])) (take-below f xs d n (omega arith)) ∙ sym (map-below (λ k. f (getD xs k d)) n)
+
+-- and so are all
+pub all-below : {A B : Type 0} (f : A → B) (xs : List A) (d : A) → map f xs ≡ map (λ k. f (getD xs k d)) (below (length xs))
+all-below f xs d = ap (map f) (sym (take-length xs)) ∙ take-below f xs d (length xs) (omega arith)
 
 -- one element more in an array of m, the rest of which holds z
 fill : {A : Type 0} (xs : List A) (z y : A) (m k : ℕ) → length xs ≡ k → k < m → set (xs ++ replicate (m - k) z) k y ≡ (xs ++ (y ∷ [])) ++ replicate (m - (k + 1)) z

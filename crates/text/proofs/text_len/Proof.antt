@@ -1,49 +1,49 @@
 -- `text_len` meets its contract: after each turn it has the length of the lines so far.
-use mathlib.Core.Path.{_≡_, refl, ap}
+use mathlib.Core.Path.{_≡_, refl, ap, _∙_}
 use Prim.Native.Nat.{_-_, _≤_}
 use native.Mathlib.Nat.{le-antisymm}
 use native.Mathlib.Omega.{arith}
-use lib.ListN.{length, getD, length-append}
+use lib.ListN.{length}
 use borrow.Author.Needs.{needs}
-use Rattle.table.specs.Value.{noValue, rowOf, tableOf}
-use Rattle.text.specs.Write.{lineText, tableText}
-use Rattle.text.proofs.Writer.{rowsOf, Sound, sound, text-next, text-room}
+use Rattle.words.specs.Lists.{below}
+use Rattle.fields.specs.Fields.{joined}
+use Rattle.fields.proofs.Lines.{joined-grows, joined-room}
+use Rattle.table.proofs.Used.{len-most}
+use Rattle.text.proofs.Writer.{lineAt, linesText, right-at, lines-are, lines-short}
 use Rattle.text.proofs.text_len.Statement.{statement}
 use Rattle.text.proofs.text_len.Tie as tie
 
 abbrev Inv-loop : tie.InvT-loop
-Inv-loop rows n len₀ i₀ len i = (i ≤ n) × (len ≡ length (tableText (rowsOf rows i)))
+Inv-loop rows n len₀ i₀ len i = (i ≤ n) × (len ≡ length (linesText rows i))
 
 abbrev μ-loop : tie.MeasureT-loop
 μ-loop rows n len₀ i₀ len i = n - i
 
-knownS : (s : tie.Start Inv-loop μ-loop) → Sound (s .args .table)
-knownS s = sound (s .args .table) (s .pre)
-
 loop-holds : tie.Need-loop-holds Inv-loop μ-loop
-unfolding tableText
+unfolding joined below
 loop-holds c = (omega arith, refl)
 
 mul-row : tie.Need-mul-row Inv-loop μ-loop
 mul-row c =
-    let s = knownS (c .before .before .before) in
-    omega (arith, s .within, s .few, c .loop-test .taken)
+    let s = c .before .before .before in
+    omega (arith, len-most (s .args .table) (s .pre), c .loop-test .taken)
 
 array-copy-out-row : tie.Need-array-copy-out-row Inv-loop μ-loop
 array-copy-out-row c =
-    let s = knownS (c .before .before .before) in
-    omega (arith, s .within, s .few, c .loop-test .taken)
+    let s = c .before .before .before in
+    omega (arith, len-most (s .args .table) (s .pre), c .loop-test .taken)
 
 line-len-requires : tie.Need-line-len-requires Inv-loop μ-loop
-line-len-requires c κs = knownS (c .before .before .before .before) .right (c .before .before .loop .i) (c .before .loop-test .taken)
+line-len-requires c κs =
+    let s = c .before .before .before .before in
+    right-at (s .args .table) (s .pre) (c .before .before .loop .i) (c .before .loop-test .taken)
 
 add-len : tie.Need-add-len Inv-loop μ-loop
-unfolding tableOf
 add-len c =
-    let s = knownS (c .before .before .before .before .before) in
-    let t = c .before .before .before .before .before .args .table in
+    let s = c .before .before .before .before .before in
+    let t = s .args .table in
     let l = c .before .before .before .loop in
-    omega (arith, text-room (t .rows) (t .len) (l .i) (c .before .before .loop-test .taken) (s .within), s .short, l .inv .1, c .line-len .ensures)
+    omega (arith, joined-room (lineAt (t .rows)) (t .len) (l .i) (c .before .before .loop-test .taken), lines-short t (s .pre), l .inv .1, c .line-len .ensures)
 
 add-i : tie.Need-add-i Inv-loop μ-loop
 add-i c = search needs
@@ -55,16 +55,14 @@ loop-again : tie.Need-loop-again Inv-loop μ-loop
 loop-again c =
     let rows = c .before .before .before .before .before .args .table .rows in
     let l = c .before .before .before .loop in
-    let e = text-next rows (l .i) (omega (arith, knownS (c .before .before .before .before .before) .within, c .before .before .loop-test .taken)) in
-    let w : c .line-len .result ≡ length (lineText (rowOf (getD rows (l .i) noValue))) = c .line-len .ensures in
-    (omega arith, omega (arith, ap length e, length-append (tableText (rowsOf rows (l .i))) (lineText (rowOf (getD rows (l .i) noValue))), w, l .inv .1))
+    (omega arith, omega (arith, l .inv .1, c .line-len .ensures, joined-grows (lineAt rows) (l .i)))
 
 returns : tie.Need-returns Inv-loop μ-loop
-unfolding tableOf
 returns c =
+    let s = c .before .before .before in
     let l = c .before .loop in
-    let e : l .i ≡ c .before .before .before .args .table .len = le-antisymm (l .inv .0) (c .loop-test .left) in
-    rw e at (l .inv .1)
+    let e = le-antisymm (l .inv .0) (c .loop-test .left) in
+    l .inv .1 ∙ ap (λ k. length (linesText (s .args .table .rows) k)) e ∙ ap length (lines-are (s .args .table) (s .pre))
 
 pub text-len-spec : {M : Type 1} → statement M
 text-len-spec =

@@ -1,23 +1,25 @@
 -- `write` meets its contract: the whole length is known before the first byte is written, and after each turn the lines so far stand at the front.
 use mathlib.Core.Path.{_≡_, sym, ap, _∙_}
 use mathlib.Core.Bool.{true}
-use mathlib.Core.List.{_++_}
 use Prim.Native.Nat.{_+_, _-_, _≤_}
 use native.Mathlib.Nat.{le-antisymm}
 use native.Mathlib.Omega.{arith}
-use lib.ListN.{length, getD}
+use lib.ListN.{length}
 use borrow.Author.Needs.{needs}
 use borrow.Author.Tests.{not-true, not-false}
+use Rattle.words.specs.Lists.{below}
 use Rattle.words.proofs.Put.{Put, put-none, put-part, put-within, put-room}
-use Rattle.table.specs.Value.{noValue, rowOf, tableOf, wellFormed}
+use Rattle.fields.specs.Fields.{joined}
+use Rattle.fields.proofs.Lines.{joined-next, joined-room}
+use Rattle.table.specs.Value.{wellFormed}
+use Rattle.table.proofs.Used.{len-most}
 use Rattle.text.specs.declared.Written.the-variants.{Bytes}
-use Rattle.text.specs.Write.{lineText, tableText}
-use Rattle.text.proofs.Writer.{rowsOf, sound, text-next, text-room, written-bad, written-short, written-whole}
+use Rattle.text.proofs.Writer.{lineAt, linesText, lines-are, written-bad, written-short, written-whole}
 use Rattle.text.proofs.write.Statement.{statement}
 use Rattle.text.proofs.write.Tie as tie
 
 abbrev Inv-loop : tie.InvT-loop
-Inv-loop out₀ rows n len₀ i₀ out len i = (i ≤ n) × Put (tableText (rowsOf rows i)) out₀ out len
+Inv-loop out₀ rows n len₀ i₀ out len i = (i ≤ n) × Put (linesText rows i) out₀ out len
 
 abbrev μ-loop : tie.MeasureT-loop
 μ-loop out₀ rows n len₀ i₀ out len i = n - i
@@ -26,19 +28,14 @@ abbrev μ-loop : tie.MeasureT-loop
 formed : (c : tie.Else1 Inv-loop μ-loop) → wellFormed (c .before .before .before .args .table) ≡ true
 formed c = sym (c .before .well-formed .ensures) ∙ not-false (c .before .well-formed .result) (c .if1 .left)
 
--- in a turn: the next line, and that there is room for it
+-- in a turn there is room for the next line
 turn : (c : tie.After-row Inv-loop μ-loop)
-    → let rows = c .before .before .before .before .before .before .before .before .before .args .table .rows in
-    let i = c .before .before .loop .i in
-    let line = lineText (rowOf (getD rows i noValue)) in
-    (tableText (rowsOf rows (i + 1)) ≡ tableText (rowsOf rows i) ++ line) × (length (tableText (rowsOf rows i)) + length line ≤ length (c .before .before .before .before .before .before .before .before .before .args .out .now))
-unfolding tableOf
+    → let a = c .before .before .before .before .before .before .before .before .before .args in
+    length (linesText (a .table .rows) (c .before .before .loop .i)) + length (lineAt (a .table .rows) (c .before .before .loop .i)) ≤ length (a .out .now)
 turn c =
-    let a = c .before .before .before .before .before .before .before .before .before .args in
-    let i = c .before .before .loop .i in
-    let s = sound (a .table) (formed (c .before .before .before .before .before .before)) in
-    let h = text-room (a .table .rows) (a .table .len) i (c .before .loop-test .taken) (s .within) in
-    (text-next (a .table .rows) i (omega (arith, s .within, c .before .loop-test .taken)), omega (arith, h, c .before .before .before .before .if2 .left, c .before .before .before .before .before .text-len .ensures))
+    let t = c .before .before .before .before .before .before .before .before .before .args .table in
+    let h = joined-room (lineAt (t .rows)) (t .len) (c .before .before .loop .i) (c .before .loop-test .taken) in
+    omega (arith, h, ap length (lines-are t (formed (c .before .before .before .before .before .before))), c .before .before .before .before .if2 .left, c .before .before .before .before .before .text-len .ensures)
 
 well-formed-requires : tie.Need-well-formed-requires Inv-loop μ-loop
 well-formed-requires c κs = search needs
@@ -59,33 +56,29 @@ returns-2 c =
     (sym (w .0), sym (w .1))
 
 loop-holds : tie.Need-loop-holds Inv-loop μ-loop
-unfolding tableText
+unfolding joined below
 loop-holds c = (omega arith, put-none _)
 
 mul-row : tie.Need-mul-row Inv-loop μ-loop
-mul-row c =
-    let s = sound _ (formed (c .before .before .before .before .before)) in
-    omega (arith, s .within, s .few, c .loop-test .taken)
+mul-row c = omega (arith, len-most _ (formed (c .before .before .before .before .before)), c .loop-test .taken)
 
 array-copy-out-row : tie.Need-array-copy-out-row Inv-loop μ-loop
-array-copy-out-row c =
-    let s = sound _ (formed (c .before .before .before .before .before)) in
-    omega (arith, s .within, s .few, c .loop-test .taken)
+array-copy-out-row c = omega (arith, len-most _ (formed (c .before .before .before .before .before)), c .loop-test .taken)
 
 sub-write-line : tie.Need-sub-write-line Inv-loop μ-loop
-sub-write-line c = put-within (c .before .before .loop .inv .1) (omega (arith, turn c .1))
+sub-write-line c = put-within (c .before .before .loop .inv .1) (omega (arith, turn c))
 
 part-write-line-start : tie.Need-part-write-line-start Inv-loop μ-loop
-part-write-line-start c = put-within (c .before .before .loop .inv .1) (omega (arith, turn c .1))
+part-write-line-start c = put-within (c .before .before .loop .inv .1) (omega (arith, turn c))
 
 part-write-line-end : tie.Need-part-write-line-end Inv-loop μ-loop
 part-write-line-end c = search needs
 
 write-line-requires : tie.Need-write-line-requires Inv-loop μ-loop
-write-line-requires c κs = put-room _ (c .before .before .before .loop .inv .1) (turn (c .before) .1)
+write-line-requires c κs = put-room _ (c .before .before .before .loop .inv .1) (turn (c .before))
 
 add-len : tie.Need-add-len Inv-loop μ-loop
-add-len c = omega (arith, turn (c .before .before .before .before) .1, c .before .before .before .before .before .before .loop .inv .1 .end, c .before .before .write-line .ensures .0, c .before .before .before .before .before .before .before .before .before .before .before .before .before .good)
+add-len c = omega (arith, turn (c .before .before .before .before), c .before .before .before .before .before .before .loop .inv .1 .end, c .before .before .write-line .ensures .0, c .before .before .before .before .before .before .before .before .before .before .before .before .before .good)
 
 add-i : tie.Need-add-i Inv-loop μ-loop
 add-i c = search needs
@@ -95,20 +88,21 @@ loop-less c = omega arith
 
 loop-again : tie.Need-loop-again Inv-loop μ-loop
 loop-again c =
-    let t = turn (c .before .before .before .before) in
-    (omega arith, rw (t .0) (put-part _ _ _ (c .before .before .before .before .before .before .loop .inv .1) (t .1) (c .before .before .write-line .ensures)))
+    let rows = c .before .before .before .before .before .before .before .before .before .before .before .before .before .args .table .rows in
+    let l = c .before .before .before .before .before .before .loop in
+    (omega arith, rw (joined-next (lineAt rows) (l .i)) (put-part _ _ _ (l .inv .1) (turn (c .before .before .before .before)) (c .before .before .write-line .ensures)))
 
 same-length : tie.Need-same-length Inv-loop μ-loop
 same-length c = c .before .loop .inv .1 .kept
 
 returns-3 : tie.Need-returns-3 Inv-loop μ-loop
-unfolding tableOf
 returns-3 c =
     let l = c .before .loop in
     let a = c .before .before .before .before .before .before .before .before .args in
+    let ok = formed (c .before .before .before .before .before) in
     let e : l .i ≡ a .table .len = le-antisymm (l .inv .0) (c .loop-test .left) in
-    let p = rw e at (l .inv .1) in
-    let w = written-whole (a .table) (a .out .now) (formed (c .before .before .before .before .before)) (omega (arith, c .before .before .before .if2 .left, c .before .before .before .before .text-len .ensures)) in
+    let p = rw (lines-are (a .table) ok) at (rw e at (l .inv .1)) in
+    let w = written-whole (a .table) (a .out .now) ok (omega (arith, c .before .before .before .if2 .left, c .before .before .before .before .text-len .ensures)) in
     (ap Bytes (p .end) ∙ sym (w .0), p .front ∙ sym (w .1))
 
 pub write-spec : {M : Type 1} → statement M

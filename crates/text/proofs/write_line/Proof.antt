@@ -1,117 +1,224 @@
--- `write_line` meets its contract: each part stands behind those before it.
-use mathlib.Core.Path.{_≡_, sym, ap, _∙_}
+-- `write_line` meets its contract: each field stands behind those before it, and the line feed behind them all.
+use mathlib.Core.Path.{_≡_, refl, sym, ap, _∙_}
 use mathlib.Core.List.{List, [], _∷_, _++_, map}
 use Prim.Native.Nat.{ℕ, _+_, _≤_, _<_}
 use native.Mathlib.Omega.{arith}
-use lib.ListN.{length, take, set, length-append, length-map}
+use lib.ListN.{length, set, length-append, length-map, length-set}
+use Rattle.words.specs.Buffer.{over}
+use Rattle.words.proofs.Buffer.{copied}
 use Rattle.words.proofs.Put.{Put, spliced, put-over, put-byte, put-part, put-within, put-room}
-use Rattle.words.proofs.Lists.{take-upTo}
+use Rattle.decimal.specs.Decimal.{digits}
+use Rattle.fields.specs.Fields.{lineFeed, fieldsText}
+use Rattle.fields.proofs.Lines.{fields-front, line-parts, put-field, put-start}
 use Rattle.table.specs.Limits.{mostTimes}
-use Rattle.table.specs.Paper.{Row}
 use Rattle.table.specs.Value.{rowOf}
-use Rattle.ticks.specs.Ticks.{ticks}
-use Rattle.table.proofs.Rows.{times-within}
-use Rattle.fields.specs.Fields.{lineFeed}
-use Rattle.text.specs.Write.{numbersText, lineText}
-use Rattle.text.specs.Parts.{headText}
-use Rattle.text.proofs.Writer.{line-parts}
+use Rattle.table.proofs.Rows.{name-within, name-front, times-within, times-front}
+use Rattle.text.specs.Write.{lineText}
 use borrow.Author.Needs.{needs}
 use Rattle.text.proofs.write_line.Statement.{statement}
 use Rattle.text.proofs.write_line.Tie as tie
 
--- the row, and the buffer as the call begins
-abbrev rowS : tie.Start → Row
-rowS s = rowOf (s .args .row)
-
+-- the buffer as the call begins, and the fields
 abbrev bufS : tie.Start → List ℕ
 bufS s = s .args .out .now
 
--- all parts have room
-room : (s : tie.Start) → length (headText (rowS s)) + length (numbersText (rowS s .times)) < length (bufS s)
-room s =
-    let r = rowS s in
-    let l = ap length (line-parts r) ∙ length-append (headText r ++ numbersText (r .times)) (lineFeed ∷ []) in
-    omega (arith, s .pre, l, length-append (headText r) (numbersText (r .times)))
+abbrev nameS : tie.Start → List ℕ
+nameS s = rowOf (s .args .row) .name
 
--- the times in use are the first `count`
-times-used : (c : tie.After-count) → take (c .count .result) (map ticks (c .before .before .before .args .row .times)) ≡ rowS (c .before .before .before) .times
-times-used c = rw (c .count .ensures) (take-upTo 0 (map ticks (c .before .before .before .args .row .times)))
+abbrev periodS : tie.Start → List ℕ
+periodS s = digits (s .args .row .period .0)
 
--- the buffer after name, T and D
-put1 : (c : tie.After-slice-known2) → Put (headText (rowS (c .before .before .before .before .before .before .before))) (bufS (c .before .before .before .before .before .before .before)) (c .before .before .write-head .last .1 .0) (c .before .before .write-head .result)
+abbrev deadlineS : tie.Start → List ℕ
+deadlineS s = digits (s .args .row .deadline .0)
+
+abbrev timesS : tie.Start → List ℕ
+timesS s = fieldsText (map digits (rowOf (s .args .row) .times))
+
+-- name, T and D
+abbrev headS : tie.Start → List ℕ
+headS s = nameS s ++ fieldsText (periodS s ∷ deadlineS s ∷ [])
+
+-- the line is those, the times, and the line feed
+parts : (s : tie.Start) → lineText (rowOf (s .args .row)) ≡ headS s ++ timesS s ++ (lineFeed ∷ [])
+unfolding lineText
+parts s = line-parts (nameS s) (periodS s ∷ deadlineS s ∷ []) (map digits (rowOf (s .args .row) .times))
+
+-- there is room for all of them, and for the first ones
+room4 : (s : tie.Start) → length (headS s ++ timesS s) < length (bufS s)
+room4 s = omega (arith, s .pre, ap length (parts s) ∙ length-append (headS s ++ timesS s) (lineFeed ∷ []))
+
+times-room : (s : tie.Start) → length (headS s) + length (timesS s) ≤ length (bufS s)
+times-room s = omega (arith, room4 s, length-append (headS s) (timesS s))
+
+room3 : (s : tie.Start) → length (headS s) ≤ length (bufS s)
+room3 s = omega (arith, times-room s)
+
+room2 : (s : tie.Start) → length (nameS s ++ fieldsText (periodS s ∷ [])) ≤ length (bufS s)
+room2 s = omega (arith, room3 s, fields-front (nameS s) (periodS s ∷ []) (deadlineS s ∷ []))
+
+room1 : (s : tie.Start) → length (nameS s) ≤ length (bufS s)
+room1 s = omega (arith, room2 s, length-append (nameS s) (fieldsText (periodS s ∷ [])))
+
+-- the buffer after the name
+abbrev buf1 : tie.After-slice-known2 → List ℕ
+buf1 c = c .before .before .copy .last .1 .0
+
+put1 : (c : tie.After-slice-known2) → Put (nameS (c .before .before .before .before .before .before .before .before .before .before)) (bufS (c .before .before .before .before .before .before .before .before .before .before)) (buf1 c) (c .before .before .copy .result)
 put1 c =
-    let e = c .before .before .write-head .ensures in
-    put-over _ _ _ _ (e .0) (e .1) (omega (arith, room (c .before .before .before .before .before .before .before)))
+    let s = c .before .before .before .before .before .before .before .before .before .before in
+    let e = c .before .before .copy .ensures in
+    let n = name-front (s .args .row) (c .before .before .before .before .before .before .before .name-len .result) (c .before .before .before .before .before .before .before .name-len .ensures) in
+    put-over (nameS s) (bufS s) (buf1 c) (c .before .before .copy .result) (e .0 ∙ ap length n) (e .1 ∙ copied _ (bufS s) _ refl ∙ ap (λ (l : List ℕ). over l (bufS s)) n) (room1 s)
 
--- and after the times
-abbrev buf2 : tie.After-slice-known3 → List ℕ
-buf2 c = spliced (c .before .before .before .before .before .before .write-head .last .1 .0) (c .before .before .before .before .before .before .write-head .result) (c .before .before .write-times .last .1 .1 .0)
-
+-- after T
 abbrev at2 : tie.After-slice-known3 → ℕ
-at2 c = c .before .before .before .before .before .before .write-head .result + c .before .before .write-times .result
+at2 c = c .before .before .before .before .before .before .copy .result + c .before .before .write-number .result
 
-put2 : (c : tie.After-slice-known3) → Put (headText (rowS (c .before .before .before .before .before .before .before .before .before .before .before)) ++ numbersText (rowS (c .before .before .before .before .before .before .before .before .before .before .before) .times)) (bufS (c .before .before .before .before .before .before .before .before .before .before .before)) (buf2 c) (at2 c)
-put2 c = put-part _ _ _ (put1 (c .before .before .before .before)) (omega (arith, room (c .before .before .before .before .before .before .before .before .before .before .before))) (rw (times-used (c .before .before .before .before .before .before .before .before)) at (c .before .before .write-times .ensures))
+abbrev buf2 : tie.After-slice-known3 → List ℕ
+buf2 c = spliced (buf1 (c .before .before .before .before)) (c .before .before .before .before .before .before .copy .result) (c .before .before .write-number .last .1 .0)
 
-two : (s : tie.Start) → length (headText (rowS s) ++ numbersText (rowS s .times)) < length (bufS s)
-two s = omega (arith, room s, length-append (headText (rowS s)) (numbersText (rowS s .times)))
+put2 : (c : tie.After-slice-known3) → Put (nameS (c .before .before .before .before .before .before .before .before .before .before .before .before .before .before) ++ fieldsText (periodS (c .before .before .before .before .before .before .before .before .before .before .before .before .before .before) ∷ [])) (bufS (c .before .before .before .before .before .before .before .before .before .before .before .before .before .before)) (buf2 c) (at2 c)
+put2 c =
+    let s = c .before .before .before .before .before .before .before .before .before .before .before .before .before .before in
+    put-field (nameS s) [] (periodS s) _ _ (put-start (nameS s) (put1 (c .before .before .before .before))) (room2 s) (c .before .before .write-number .ensures)
+
+-- after D
+abbrev at3 : tie.After-slice-known4 → ℕ
+at3 c = at2 (c .before .before .before .before) + c .before .before .write-number2 .result
+
+abbrev buf3 : tie.After-slice-known4 → List ℕ
+buf3 c = spliced (buf2 (c .before .before .before .before)) (at2 (c .before .before .before .before)) (c .before .before .write-number2 .last .1 .0)
+
+put3 : (c : tie.After-slice-known4) → Put (headS (c .before .before .before .before .before .before .before .before .before .before .before .before .before .before .before .before .before .before)) (bufS (c .before .before .before .before .before .before .before .before .before .before .before .before .before .before .before .before .before .before)) (buf3 c) (at3 c)
+put3 c =
+    let s = c .before .before .before .before .before .before .before .before .before .before .before .before .before .before .before .before .before .before in
+    put-field (nameS s) (periodS s ∷ []) (deadlineS s) _ _ (put2 (c .before .before .before .before)) (room3 s) (c .before .before .write-number2 .ensures)
+
+-- after the times
+abbrev at4 : tie.After-slice-known5 → ℕ
+at4 c = at3 (c .before .before .before .before) + c .before .before .write-times .result
+
+abbrev buf4 : tie.After-slice-known5 → List ℕ
+buf4 c = spliced (buf3 (c .before .before .before .before)) (at3 (c .before .before .before .before)) (c .before .before .write-times .last .1 .1 .0)
+
+put4 : (c : tie.After-slice-known5) → Put (headS (c .before .before .before .before .before .before .before .before .before .before .before .before .before .before .before .before .before .before .before .before .before .before) ++ timesS (c .before .before .before .before .before .before .before .before .before .before .before .before .before .before .before .before .before .before .before .before .before .before)) (bufS (c .before .before .before .before .before .before .before .before .before .before .before .before .before .before .before .before .before .before .before .before .before .before)) (buf4 c) (at4 c)
+put4 c =
+    let s = c .before .before .before .before .before .before .before .before .before .before .before .before .before .before .before .before .before .before .before .before .before .before in
+    let n = c .before .before .before .before .before .before .before .before .before .before .before .before .before .before .before .before .before .count in
+    put-part _ _ _ (put3 (c .before .before .before .before)) (times-room s) (rw (times-front (s .args .row) (n .result) (n .ensures)) at (c .before .before .write-times .ensures))
 
 -- and after the line feed
-put3 : (c : tie.After-slice-known3) → Put (lineText (rowS (c .before .before .before .before .before .before .before .before .before .before .before))) (bufS (c .before .before .before .before .before .before .before .before .before .before .before)) (set (buf2 c) (at2 c) lineFeed) (at2 c + 1)
-put3 c = rw (line-parts (rowS (c .before .before .before .before .before .before .before .before .before .before .before))) (put-byte lineFeed (put2 c) (two (c .before .before .before .before .before .before .before .before .before .before .before)))
+put5 : (c : tie.After-slice-known5) → Put (lineText (rowOf (c .before .before .before .before .before .before .before .before .before .before .before .before .before .before .before .before .before .before .before .before .before .before .args .row))) (bufS (c .before .before .before .before .before .before .before .before .before .before .before .before .before .before .before .before .before .before .before .before .before .before)) (set (buf4 c) (at4 c) lineFeed) (at4 c + 1)
+put5 c = rw (parts (c .before .before .before .before .before .before .before .before .before .before .before .before .before .before .before .before .before .before .before .before .before .before)) (put-byte lineFeed (put4 c) (room4 (c .before .before .before .before .before .before .before .before .before .before .before .before .before .before .before .before .before .before .before .before .before .before)))
+
+name-len-requires : tie.Need-name-len-requires
+name-len-requires c κs = search needs
 
 count-requires : tie.Need-count-requires
 count-requires c κs = search needs
 
-write-head-requires : tie.Need-write-head-requires
-write-head-requires c κs =
-    let h : length (headText (rowS (c .before .before .before .before))) ≤ length (bufS (c .before .before .before .before)) = omega (arith, room (c .before .before .before .before)) in
-    h
+array-share-prefix-name : tie.Need-array-share-prefix-name
+array-share-prefix-name c =
+    let v = c .before .before .before .before .before .args .row in
+    let l : length (v .name) ≡ 12 = search needs in
+    omega (arith, c .before .before .name-len .ensures, name-within v l)
+
+slice-aggregate-copy : tie.Need-slice-aggregate-copy
+slice-aggregate-copy c =
+    let n = c .before .before .before .name-len in
+    n .ensures ∙ ap length (sym (name-front (c .before .before .before .before .before .before .args .row) (n .result) (n .ensures)))
+
+copy-requires : tie.Need-copy-requires
+copy-requires c κs = rw (name-front (c .before .before .before .before .before .before .before .args .row) (c .before .before .before .before .name-len .result) (c .before .before .before .before .name-len .ensures)) (room1 (c .before .before .before .before .before .before .before))
+
+sub-write-number : tie.Need-sub-write-number
+sub-write-number c = put-within (put1 c) (room1 (c .before .before .before .before .before .before .before .before .before .before))
+
+part-write-number-start : tie.Need-part-write-number-start
+part-write-number-start c = put-within (put1 c) (room1 (c .before .before .before .before .before .before .before .before .before .before))
+
+part-write-number-end : tie.Need-part-write-number-end
+part-write-number-end c = search needs
+
+write-number-requires : tie.Need-write-number-requires
+write-number-requires c κs = search needs
+
+add-at : tie.Need-add-at
+add-at c = omega (arith, put2 c .end, room2 (c .before .before .before .before .before .before .before .before .before .before .before .before .before .before), c .before .before .before .before .before .before .before .before .before .before .before .before .before .before .good)
+
+sub-write-number-2 : tie.Need-sub-write-number-2
+sub-write-number-2 c = put-within (put2 c) (room2 (c .before .before .before .before .before .before .before .before .before .before .before .before .before .before))
+
+part-write-number-start-2 : tie.Need-part-write-number-start-2
+part-write-number-start-2 c = put-within (put2 c) (room2 (c .before .before .before .before .before .before .before .before .before .before .before .before .before .before))
+
+part-write-number-end-2 : tie.Need-part-write-number-end-2
+part-write-number-end-2 c = search needs
+
+write-number-requires-2 : tie.Need-write-number-requires-2
+write-number-requires-2 c κs = search needs
+
+add-at-2 : tie.Need-add-at-2
+add-at-2 c = omega (arith, put3 c .end, room3 (c .before .before .before .before .before .before .before .before .before .before .before .before .before .before .before .before .before .before), c .before .before .before .before .before .before .before .before .before .before .before .before .before .before .before .before .before .before .good)
 
 sub-write-times : tie.Need-sub-write-times
-sub-write-times c = put-within (put1 c) (omega (arith, room (c .before .before .before .before .before .before .before)))
+sub-write-times c = put-within (put3 c) (room3 (c .before .before .before .before .before .before .before .before .before .before .before .before .before .before .before .before .before .before))
 
 part-write-times-start : tie.Need-part-write-times-start
-part-write-times-start c = put-within (put1 c) (omega (arith, room (c .before .before .before .before .before .before .before)))
+part-write-times-start c = put-within (put3 c) (room3 (c .before .before .before .before .before .before .before .before .before .before .before .before .before .before .before .before .before .before))
 
 part-write-times-end : tie.Need-part-write-times-end
 part-write-times-end c = search needs
 
 write-times-requires : tie.Need-write-times-requires
 write-times-requires c κs =
-    let s = c .before .before .before .before .before .before .before .before in
+    let s = c .before .before .before .before .before .before .before .before .before .before .before .before .before .before .before .before .before .before .before in
     let v = s .args .row in
     let l : length (v .times) ≡ mostTimes = sym (length-map (v .times) _) ∙ s .good .0 .1 .1 .1 .1 .1 .0 .1 .0 .1 in
-    (omega (arith, times-within v l, c .before .before .before .before .before .count .ensures), rw (times-used (c .before .before .before .before .before)) (put-room _ (put1 (c .before)) (omega (arith, room s))))
+    let n = c .before .before .before .before .before .before .before .before .before .before .before .before .before .before .count in
+    (omega (arith, times-within v l, n .ensures), rw (times-front v (n .result) (n .ensures)) (put-room _ (put3 (c .before)) (times-room s)))
 
-add-at : tie.Need-add-at
-add-at c = omega (arith, put2 c .end, two (c .before .before .before .before .before .before .before .before .before .before .before), c .before .before .before .before .before .before .before .before .before .before .before .good)
+add-at-3 : tie.Need-add-at-3
+add-at-3 c = omega (arith, put4 c .end, room4 (c .before .before .before .before .before .before .before .before .before .before .before .before .before .before .before .before .before .before .before .before .before .before), c .before .before .before .before .before .before .before .before .before .before .before .before .before .before .before .before .before .before .before .before .before .before .good)
 
 slice-write-out : tie.Need-slice-write-out
 slice-write-out c =
-    let h : at2 c < length (buf2 c) = omega (arith, put2 c .end, put2 c .kept, two (c .before .before .before .before .before .before .before .before .before .before .before)) in
+    let h : at4 c < length (buf4 c) = omega (arith, put4 c .end, put4 c .kept, room4 (c .before .before .before .before .before .before .before .before .before .before .before .before .before .before .before .before .before .before .before .before .before .before)) in
     h
 
 add-result : tie.Need-add-result
-add-result c = omega (arith, put2 c .end, two (c .before .before .before .before .before .before .before .before .before .before .before), c .before .before .before .before .before .before .before .before .before .before .before .good)
+add-result c = omega (arith, put4 c .end, room4 (c .before .before .before .before .before .before .before .before .before .before .before .before .before .before .before .before .before .before .before .before .before .before), c .before .before .before .before .before .before .before .before .before .before .before .before .before .before .before .before .before .before .before .before .before .before .good)
 
 same-length : tie.Need-same-length
-same-length c = put3 c .kept
+same-length c = length-set (buf4 c) (at4 c) _ ∙ put4 c .kept
 
 returns : tie.Need-returns
-returns c = (put3 c .end, put3 c .front)
+returns c = (put5 c .end, put5 c .front)
 
 pub write-line-spec : {M : Type 1} → statement M
 write-line-spec =
     tie.close
     (tie.spec
+    name-len-requires
     count-requires
-    write-head-requires
+    array-share-prefix-name
+    slice-aggregate-copy
+    copy-requires
+    sub-write-number
+    part-write-number-start
+    part-write-number-end
+    write-number-requires
+    add-at
+    sub-write-number-2
+    part-write-number-start-2
+    part-write-number-end-2
+    write-number-requires-2
+    add-at-2
     sub-write-times
     part-write-times-start
     part-write-times-end
     write-times-requires
-    add-at
+    add-at-3
     slice-write-out
     add-result
     same-length
