@@ -69,11 +69,11 @@ pub rows-test-at : (rows : List RowValue) (n i : ℕ) → i < n → n ≤ length
     and rowsTest (take (i + 1) rows) (drop (i + 1) (take n rows)))
 unfolding rowsTest
 rows-test-at rows n i h k =
-    rw (add-one, take-suc rows i noValue (omega arith)) (rw add-one at (ap (rowsTest (take i rows)) (used-row rows n i h k)))
+    rw (add-one, take-suc rows i noValue (omega arith)) (rw add-one at (ap (rowsTest (take i rows)) (used-row rows n i h (omega arith))))
 
 pub rows-test-end : (rows above : List RowValue) (n i : ℕ) → n ≤ i → n ≤ length rows → rowsTest above (drop i (take n rows)) ≡ true
 unfolding rowsTest
-rows-test-end rows above n i h k = ap (rowsTest above) (used-end rows n i h k)
+rows-test-end rows above n i h k = ap (rowsTest above) (used-end rows n i (omega arith))
 
 -- whether a row waits, one row further
 pub waits-next : (rows : List RowValue) (i : ℕ) → i < length rows → any waitsValue (take i rows) ≡ false

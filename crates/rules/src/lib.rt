@@ -167,8 +167,7 @@ fn rows_right(rows: [Row; Table::ROWS], n: usize) -> bool
             return false;
         }
         let name = row.name;
-        let above = Table { rows, len: i };
-        if above.has(name) {
+        if table::named(rows, i, name) {
             return false;
         }
         waiting = row.waits();

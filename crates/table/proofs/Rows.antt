@@ -2,12 +2,12 @@
 use mathlib.Core.Path.{_≡_, ap, _∙_}
 use mathlib.Core.Bool.{false}
 use mathlib.Core.List.{List, [], _∷_, map}
-use Prim.Native.Nat.{ℕ, _+_, _≤_, _<_}
+use Prim.Native.Nat.{ℕ, _+_, _≤_, _<_, min}
 use native.Mathlib.Omega.{arith}
 use lib.Dec.{leb}
 use native.Mathlib.Numerals.{add-one}
-use lib.ListN.{length, getD, take, drop, List·getD-map, length-map, drop-of-length-le}
-use lib.Seq.{drop-cons, length-take-le, getD-take}
+use lib.ListN.{length, length-take, getD, take, drop, List·getD-map, length-map, drop-of-length-le}
+use lib.Seq.{drop-cons, getD-take}
 use borrow.Author.Tests.{le-leb}
 use Rattle.ticks.specs.declared.Length.{Length}
 use Rattle.words.specs.Choice.{_or_}
@@ -51,21 +51,21 @@ times-front v n e = rw e (take-upTo 0 (map ticks (v .times)))
 
 -- the row at i among the first n
 
-pub used-row : (rows : List RowValue) (n i : ℕ) → i < n → n ≤ length rows → drop i (take n rows) ≡ getD rows i noValue ∷ drop (i + 1) (take n rows)
+pub used-row : (rows : List RowValue) (n i : ℕ) → i < n → i < length rows → drop i (take n rows) ≡ getD rows i noValue ∷ drop (i + 1) (take n rows)
 used-row rows n i h k =
-    let l : i < length (take n rows) = rw (length-take-le n rows k) h in
+    let l : i < length (take n rows) = rw (length-take n rows) (omega arith) in
     rw (← getD-take n rows i noValue h, add-one) (drop-cons (take n rows) i noValue l)
 
-pub used-end : (rows : List RowValue) (n i : ℕ) → n ≤ i → n ≤ length rows → drop i (take n rows) ≡ []
-used-end rows n i h k =
-    let l : length (take n rows) ≤ i = rw (length-take-le n rows k) h in
+pub used-end : (rows : List RowValue) (n i : ℕ) → min n (length rows) ≤ i → drop i (take n rows) ≡ []
+used-end rows n i h =
+    let l : length (take n rows) ≤ i = rw (length-take n rows) h in
     drop-of-length-le (take n rows) l
 
-pub name-in-at : (x : List ℕ) (rows : List RowValue) (n i : ℕ) → i < n → n ≤ length rows
+pub name-in-at : (x : List ℕ) (rows : List RowValue) (n i : ℕ) → i < n → i < length rows
     → nameIn x (drop i (take n rows)) ≡ (same x (getD rows i noValue .name) or nameIn x (drop (i + 1) (take n rows)))
 unfolding nameIn any
 name-in-at x rows n i h k = ap (any (λ (v : RowValue). same x (v .name))) (used-row rows n i h k)
 
-pub name-in-end : (x : List ℕ) (rows : List RowValue) (n i : ℕ) → n ≤ i → n ≤ length rows → nameIn x (drop i (take n rows)) ≡ false
+pub name-in-end : (x : List ℕ) (rows : List RowValue) (n i : ℕ) → min n (length rows) ≤ i → nameIn x (drop i (take n rows)) ≡ false
 unfolding nameIn any
-name-in-end x rows n i h k = ap (any (λ (v : RowValue). same x (v .name))) (used-end rows n i h k)
+name-in-end x rows n i h = ap (any (λ (v : RowValue). same x (v .name))) (used-end rows n i h)

@@ -2,11 +2,9 @@
 // A row keeps zeros behind its name and behind its times, and rows that are not used are all zero: so no count can disagree with what it counts.
 ghost use mathlib.Core.Path.{_≡_};
 ghost use mathlib.Core.List.{map};
-ghost use Prim.Native.Nat.{_≤_};
 ghost use lib.Dec.{ltb};
 ghost use lib.ListN.{length, take};
 ghost use Rattle.words.specs.Lists.{sum, same};
-ghost use Rattle.table.specs.Limits.{mostRows};
 ghost use Rattle.table.specs.Paper.{waits};
 ghost use Rattle.table.specs.Value.{rowOf, emptyRow, emptyTable, nameIn};
 ghost use Rattle.ticks.specs.Ticks.{ticks};
@@ -125,18 +123,6 @@ impl Table {
             len: 0,
         }
     }
-
-    // Whether a row in use has the name.
-    pub fn has(self, name: [u8; Table::NAME]) -> bool
-        ensures { λ r. ⌜ r ≡ nameIn name (take (self .len) (self .rows)) ⌝ }
-    {
-        let rows = self.rows;
-        let len = self.len;
-        if Table::ROWS < len {
-            return named(rows, Table::ROWS, name);
-        }
-        named(rows, len, name)
-    }
 }
 
 fn same_name(a: [u8; Table::NAME], b: [u8; Table::NAME]) -> bool
@@ -153,12 +139,14 @@ fn same_name(a: [u8; Table::NAME], b: [u8; Table::NAME]) -> bool
 }
 
 // Whether one of the first n rows has the name.
-fn named(rows: [Row; Table::ROWS], n: usize, name: [u8; Table::NAME]) -> bool
-    requires { ⌜ n ≤ mostRows ⌝ }
+pub fn named(rows: [Row; Table::ROWS], n: usize, name: [u8; Table::NAME]) -> bool
     ensures { λ r. ⌜ r ≡ nameIn name (take n rows) ⌝ }
 {
     let mut i: usize = 0;
-    while i < n {
+    while i < Table::ROWS {
+        if n <= i {
+            return false;
+        }
         let row = rows[i];
         let other = row.name;
         if same_name(name, other) {

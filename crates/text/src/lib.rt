@@ -198,7 +198,7 @@ pub fn read(text: &[u8]) -> Reading
             break 'lines refused(Refusal::LongTimes(number));
         }
         let name = row.name;
-        if table.has(name) {
+        if table::named(table.rows, n, name) {
             break 'lines refused(Refusal::NameTaken(number));
         }
         waiting = row.waits();

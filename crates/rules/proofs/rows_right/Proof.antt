@@ -51,15 +51,15 @@ returns-2 c =
     sym (l .inv .3 ∙ rows-test-at (a .t1) (a .n) (l .i) (c .before .before .before .before .loop-test .taken) (omega (arith, l .inv .1, c .before .before .before .before .before .before .pre))
     ∙ and-true _ (ap not (sym (l .inv .2) ∙ c .before .before .before .if1 .left)) ∙ and-false _ e)
 
-has-requires : tie.Need-has-requires Inv-loop μ-loop
-has-requires c κs = search needs
+named-requires : tie.Need-named-requires Inv-loop μ-loop
+named-requires c κs = search needs
 
 returns-3 : tie.Need-returns-3 Inv-loop μ-loop
 returns-3 c =
     let l = c .before .before .before .before .before .before .before .before .loop in
     let a = c .before .before .before .before .before .before .before .before .before .args in
     let e : rightValue (getD (a .t1) (l .i) noValue) ≡ true = sym (c .before .before .before .before .right-row .ensures) ∙ not-false _ (c .before .before .before .if2 .left) in
-    let f : nameIn (getD (a .t1) (l .i) noValue .name) (take (l .i) (a .t1)) ≡ true = sym (c .before .has .ensures) ∙ c .if3 .taken in
+    let f : nameIn (getD (a .t1) (l .i) noValue .name) (take (l .i) (a .t1)) ≡ true = sym (c .before .named .ensures) ∙ c .if3 .taken in
     sym (l .inv .3 ∙ rows-test-at (a .t1) (a .n) (l .i) (c .before .before .before .before .before .before .before .loop-test .taken) (omega (arith, l .inv .1, c .before .before .before .before .before .before .before .before .before .pre))
     ∙ and-true _ (ap not (sym (l .inv .2) ∙ c .before .before .before .before .before .before .if1 .left)) ∙ and-true _ e ∙ and-false _ (ap not f))
 
@@ -78,7 +78,7 @@ loop-again c =
     let a = c .before .before .before .before .before .before .before .before .before .before .args in
     let none : any waitsValue (take (l .i) (a .t1)) ≡ false = sym (l .inv .2) ∙ c .before .before .before .before .before .before .before .if1 .left in
     let e : rightValue (getD (a .t1) (l .i) noValue) ≡ true = sym (c .before .before .before .before .before .right-row .ensures) ∙ not-false _ (c .before .before .before .before .if2 .left) in
-    let f : nameIn (getD (a .t1) (l .i) noValue .name) (take (l .i) (a .t1)) ≡ false = sym (c .before .before .has .ensures) ∙ c .before .if3 .left in (
+    let f : nameIn (getD (a .t1) (l .i) noValue .name) (take (l .i) (a .t1)) ≡ false = sym (c .before .before .named .ensures) ∙ c .before .if3 .left in (
       search needs,
       l .inv .1,
       c .waits .ensures ∙ sym (waits-next (a .t1) (l .i) (omega (arith, l .inv .1, c .before .before .before .before .before .before .before .before .before .before .pre, c .before .before .before .before .before .before .before .before .loop-test .taken)) none),
@@ -104,7 +104,7 @@ rows-right-spec =
     array-copy-out-row
     right-row-requires
     returns-2
-    has-requires
+    named-requires
     returns-3
     waits-requires
     add-i

@@ -195,8 +195,8 @@ too-long-requires c κs = search needs
 refused-requires-10 : tie.Need-refused-requires-10 Inv-loop μ-loop Inv-lines μ-lines
 refused-requires-10 c κs = search needs
 
-has-requires : tie.Need-has-requires Inv-loop μ-loop Inv-lines μ-lines
-has-requires c κs = search needs
+named-requires : tie.Need-named-requires Inv-loop μ-loop Inv-lines μ-lines
+named-requires c κs = search needs
 
 refused-requires-11 : tie.Need-refused-requires-11 Inv-loop μ-loop Inv-lines μ-lines
 refused-requires-11 c κs = search needs
@@ -211,13 +211,13 @@ element-set-from-row : tie.Need-element-set-from-row Inv-loop μ-loop Inv-lines 
 element-set-from-row c = search needs
 
 add-at : tie.Need-add-at Inv-loop μ-loop Inv-lines μ-lines
-add-at c = omega (arith, end-within (atEnd (c .before .before .before .before .before .before .before .before .before .before .before .before .before .before .before)), c .before .before .before .before .before .before .before .before .before .before .before .before .before .before .before .before .before .before .before .before .before .before .before .if2 .left)
+add-at c = omega (arith, end-within (atEnd (c .before .before .before .before .before .before .before .before .before .before .before .before .before .before .before .before)), c .before .before .before .before .before .before .before .before .before .before .before .before .before .before .before .before .before .before .before .before .before .before .before .before .if2 .left)
 
 lines-less : tie.Need-lines-less Inv-loop μ-loop Inv-lines μ-lines
-lines-less c = omega (arith, end-within (atEnd (c .before .before .before .before .before .before .before .before .before .before .before .before .before .before .before)), c .before .before .before .before .before .before .before .before .before .before .before .before .before .before .before .before .before .before .if4 .left, c .before .before .before .before .before .before .before .before .before .before .before .before .before .before .before .find .ensures)
+lines-less c = omega (arith, end-within (atEnd (c .before .before .before .before .before .before .before .before .before .before .before .before .before .before .before .before)), c .before .before .before .before .before .before .before .before .before .before .before .before .before .before .before .before .before .before .before .if4 .left, c .before .before .before .before .before .before .before .before .before .before .before .before .before .before .before .before .find .ensures)
 
 lines-again : tie.Need-lines-again Inv-loop μ-loop Inv-lines μ-lines
-lines-again c = rw (c .waits .ensures) (after-row (atRow (c .before .before .before .before .before .before .before .before)) (c .before .before .before .before .before .before .if10 .left) (sym (c .before .before .before .before .before .too-long .ensures) ∙ c .before .before .before .before .if11 .left) (sym (c .before .before .has .ensures) ∙ c .before .if12 .left))
+lines-again c = rw (c .waits .ensures) (after-row (atRow (c .before .before .before .before .before .before .before .before .before)) (c .before .before .before .before .before .before .before .if10 .left) (sym (c .before .before .before .before .before .before .too-long .ensures) ∙ c .before .before .before .before .before .if11 .left) (sym (c .before .before .named .ensures) ∙ c .before .if12 .left))
 
 returns-4 : tie.Need-returns-4 Inv-loop μ-loop Inv-lines μ-lines
 returns-4 c =
@@ -251,7 +251,7 @@ returns-11 : tie.Need-returns-11 Inv-loop μ-loop Inv-lines μ-lines
 returns-11 c = c .refused10 .ensures ∙ ap readingOf (sym (refused-long (atRow (c .before .before .before .before .before)) (c .before .before .before .if10 .left) (sym (c .before .before .too-long .ensures) ∙ c .before .if11 .taken)))
 
 returns-12 : tie.Need-returns-12 Inv-loop μ-loop Inv-lines μ-lines
-returns-12 c = c .refused11 .ensures ∙ ap readingOf (sym (refused-taken (atRow (c .before .before .before .before .before .before .before .before)) (c .before .before .before .before .before .before .if10 .left) (sym (c .before .before .before .before .before .too-long .ensures) ∙ c .before .before .before .before .if11 .left) (sym (c .before .before .has .ensures) ∙ c .before .if12 .taken)))
+returns-12 c = c .refused11 .ensures ∙ ap readingOf (sym (refused-taken (atRow (c .before .before .before .before .before .before .before .before .before)) (c .before .before .before .before .before .before .before .if10 .left) (sym (c .before .before .before .before .before .before .too-long .ensures) ∙ c .before .before .before .before .before .if11 .left) (sym (c .before .before .named .ensures) ∙ c .before .if12 .taken)))
 
 pub read-spec : {M : Type 1} → statement M
 read-spec =
@@ -302,7 +302,7 @@ read-spec =
     refused-requires-9
     too-long-requires
     refused-requires-10
-    has-requires
+    named-requires
     refused-requires-11
     waits-requires
     mul-row
