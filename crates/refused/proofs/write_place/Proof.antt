@@ -16,6 +16,13 @@ use borrow.Author.Needs.{needs}
 use Rattle.refused.proofs.write_place.Statement.{statement}
 use Rattle.refused.proofs.write_place.Tie as tie
 
+-- back from where the buffer has grown to the start, and to where its length was found enough
+abbrev start-field : tie.After-field → tie.Start
+start-field c = c .before .before .before .before .before .before .before .before .before
+
+abbrev chosen-field : tie.After-field → tie.Else1
+chosen-field c = c .before .before .before .before .before .before
+
 -- the buffer as the call begins, and the fields
 abbrev bufS : tie.Start → List ℕ
 bufS s = s .args .out .now
@@ -46,8 +53,8 @@ room1 c = omega (arith, room2 c, fields-front [] (lineS (c .before .before .befo
 abbrev buf1 : tie.After-field → List ℕ
 buf1 c = c .before .before .before .write-number .last .1 .0
 
-put1 : (c : tie.After-field) → Put (fieldsText (lineS (c .before .before .before .before .before .before .before .before .before) ∷ [])) (bufS (c .before .before .before .before .before .before .before .before .before)) (buf1 c) (c .before .before .before .write-number .result)
-put1 c = put-fields (lineS (c .before .before .before .before .before .before .before .before .before)) (bufS (c .before .before .before .before .before .before .before .before .before)) _ _ (room1 (c .before .before .before .before .before .before)) (rw (c .before .before .before .before .before .line .ensures) at (c .before .before .before .write-number .ensures))
+put1 : (c : tie.After-field) → Put (fieldsText (lineS (start-field c) ∷ [])) (bufS (start-field c)) (buf1 c) (c .before .before .before .write-number .result)
+put1 c = put-fields (lineS (start-field c)) (bufS (start-field c)) _ _ (room1 (chosen-field c)) (rw (c .before .before .before .before .before .line .ensures) at (c .before .before .before .write-number .ensures))
 
 -- and after the field
 put2 : (c : tie.After-slice-known3)
@@ -74,10 +81,10 @@ field-requires : tie.Need-field-requires
 field-requires c κs = search needs
 
 sub-write-number : tie.Need-sub-write-number
-sub-write-number c = put-within (put1 c) (room1 (c .before .before .before .before .before .before))
+sub-write-number c = put-within (put1 c) (room1 (chosen-field c))
 
 part-write-number-start : tie.Need-part-write-number-start
-part-write-number-start c = put-within (put1 c) (room1 (c .before .before .before .before .before .before))
+part-write-number-start c = put-within (put1 c) (room1 (chosen-field c))
 
 part-write-number-end : tie.Need-part-write-number-end
 part-write-number-end c = search needs

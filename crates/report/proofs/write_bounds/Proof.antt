@@ -13,6 +13,13 @@ use borrow.Author.Needs.{needs}
 use Rattle.report.proofs.write_bounds.Statement.{statement}
 use Rattle.report.proofs.write_bounds.Tie as tie
 
+-- back from where the buffer has grown to the start
+abbrev start2 : tie.After-slice-known2 → tie.Start
+start2 c = c .before .before .before .before .before
+
+abbrev start3 : tie.After-slice-known3 → tie.Start
+start3 c = c .before .before .before .before .before .before .before .before .before
+
 -- the buffer as the call begins
 abbrev bufS : tie.Start → List ℕ
 bufS s = s .args .out .now
@@ -42,8 +49,8 @@ room1 s = omega (arith, room2 s, fields-front [] (wholeS s ∷ []) (splitS s ∷
 abbrev buf1 : tie.After-slice-known2 → List ℕ
 buf1 c = c .before .before .write-figure .last .1 .0
 
-put1 : (c : tie.After-slice-known2) → Put (fieldsText (wholeS (c .before .before .before .before .before) ∷ [])) (bufS (c .before .before .before .before .before)) (buf1 c) (c .before .before .write-figure .result)
-put1 c = put-fields (wholeS (c .before .before .before .before .before)) (bufS (c .before .before .before .before .before)) _ _ (room1 (c .before .before .before .before .before)) (c .before .before .write-figure .ensures)
+put1 : (c : tie.After-slice-known2) → Put (fieldsText (wholeS (start2 c) ∷ [])) (bufS (start2 c)) (buf1 c) (c .before .before .write-figure .result)
+put1 c = put-fields (wholeS (start2 c)) (bufS (start2 c)) _ _ (room1 (start2 c)) (c .before .before .write-figure .ensures)
 
 -- after split
 abbrev at2 : tie.After-slice-known3 → ℕ
@@ -52,8 +59,8 @@ at2 c = c .before .before .before .before .before .before .write-figure .result 
 abbrev buf2 : tie.After-slice-known3 → List ℕ
 buf2 c = spliced (buf1 (c .before .before .before .before)) (c .before .before .before .before .before .before .write-figure .result) (c .before .before .write-figure2 .last .1 .0)
 
-put2 : (c : tie.After-slice-known3) → Put (fieldsText (wholeS (c .before .before .before .before .before .before .before .before .before) ∷ splitS (c .before .before .before .before .before .before .before .before .before) ∷ [])) (bufS (c .before .before .before .before .before .before .before .before .before)) (buf2 c) (at2 c)
-put2 c = put-field [] (wholeS (c .before .before .before .before .before .before .before .before .before) ∷ []) (splitS (c .before .before .before .before .before .before .before .before .before)) _ _ (put1 (c .before .before .before .before)) (room2 (c .before .before .before .before .before .before .before .before .before)) (c .before .before .write-figure2 .ensures)
+put2 : (c : tie.After-slice-known3) → Put (fieldsText (wholeS (start3 c) ∷ splitS (start3 c) ∷ [])) (bufS (start3 c)) (buf2 c) (at2 c)
+put2 c = put-field [] (wholeS (start3 c) ∷ []) (splitS (start3 c)) _ _ (put1 (c .before .before .before .before)) (room2 (start3 c)) (c .before .before .write-figure2 .ensures)
 
 -- and after rounds
 put3 : (c : tie.After-slice-known4)
@@ -65,10 +72,10 @@ write-figure-requires : tie.Need-write-figure-requires
 write-figure-requires c κs = search needs
 
 sub-write-figure : tie.Need-sub-write-figure
-sub-write-figure c = put-within (put1 c) (room1 (c .before .before .before .before .before))
+sub-write-figure c = put-within (put1 c) (room1 (start2 c))
 
 part-write-figure-start : tie.Need-part-write-figure-start
-part-write-figure-start c = put-within (put1 c) (room1 (c .before .before .before .before .before))
+part-write-figure-start c = put-within (put1 c) (room1 (start2 c))
 
 part-write-figure-end : tie.Need-part-write-figure-end
 part-write-figure-end c = search needs
@@ -80,10 +87,10 @@ add-at : tie.Need-add-at
 add-at c = omega (arith, put2 c .end, room2 (c .before .before .before .before .before .before .before .before .before), c .before .before .before .before .before .before .before .before .before .good)
 
 sub-write-number : tie.Need-sub-write-number
-sub-write-number c = put-within (put2 c) (room2 (c .before .before .before .before .before .before .before .before .before))
+sub-write-number c = put-within (put2 c) (room2 (start3 c))
 
 part-write-number-start : tie.Need-part-write-number-start
-part-write-number-start c = put-within (put2 c) (room2 (c .before .before .before .before .before .before .before .before .before))
+part-write-number-start c = put-within (put2 c) (room2 (start3 c))
 
 part-write-number-end : tie.Need-part-write-number-end
 part-write-number-end c = search needs

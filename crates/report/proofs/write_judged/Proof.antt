@@ -18,6 +18,13 @@ use borrow.Author.Needs.{needs}
 use Rattle.report.proofs.write_judged.Statement.{statement}
 use Rattle.report.proofs.write_judged.Tie as tie
 
+-- back from where the buffer has grown to the start
+abbrev start2 : tie.After-slice-known2 → tie.Start
+start2 c = c .before .before .before .before .before .before .before .before .before
+
+abbrev start3 : tie.After-slice-known3 → tie.Start
+start3 c = c .before .before .before .before .before .before .before .before .before .before .before .before .before
+
 -- the buffer as the call begins
 abbrev bufS : tie.Start → List ℕ
 bufS s = s .args .out .now
@@ -47,9 +54,9 @@ room1 s = omega (arith, room2 s, length-append (nameS s) (fieldsText (verdictS s
 abbrev buf1 : tie.After-slice-known2 → List ℕ
 buf1 c = c .before .before .copy .last .1 .0
 
-put1 : (c : tie.After-slice-known2) → Put (nameS (c .before .before .before .before .before .before .before .before .before)) (bufS (c .before .before .before .before .before .before .before .before .before)) (buf1 c) (c .before .before .copy .result)
+put1 : (c : tie.After-slice-known2) → Put (nameS (start2 c)) (bufS (start2 c)) (buf1 c) (c .before .before .copy .result)
 put1 c =
-    let s = c .before .before .before .before .before .before .before .before .before in
+    let s = start2 c in
     let e = c .before .before .copy .ensures in
     let n = name-front (s .args .row) (c .before .before .before .before .before .before .name-len .result) (c .before .before .before .before .before .before .name-len .ensures) in
     put-over (nameS s) (bufS s) (buf1 c) (c .before .before .copy .result) (e .0 ∙ ap length n) (e .1 ∙ copied _ (bufS s) _ refl ∙ ap (λ (l : List ℕ). over l (bufS s)) n) (room1 s)
@@ -61,8 +68,8 @@ at2 c = c .before .before .before .before .before .before .copy .result + c .bef
 abbrev buf2 : tie.After-slice-known3 → List ℕ
 buf2 c = spliced (buf1 (c .before .before .before .before)) (c .before .before .before .before .before .before .copy .result) (c .before .before .write-verdict .last .1 .0)
 
-put2 : (c : tie.After-slice-known3) → Put (nameS (c .before .before .before .before .before .before .before .before .before .before .before .before .before) ++ fieldsText (verdictS (c .before .before .before .before .before .before .before .before .before .before .before .before .before) ∷ [])) (bufS (c .before .before .before .before .before .before .before .before .before .before .before .before .before)) (buf2 c) (at2 c)
-put2 c = put-field (nameS (c .before .before .before .before .before .before .before .before .before .before .before .before .before)) [] (verdictS (c .before .before .before .before .before .before .before .before .before .before .before .before .before)) _ _ (put-start (nameS (c .before .before .before .before .before .before .before .before .before .before .before .before .before)) (put1 (c .before .before .before .before))) (room2 (c .before .before .before .before .before .before .before .before .before .before .before .before .before)) (c .before .before .write-verdict .ensures)
+put2 : (c : tie.After-slice-known3) → Put (nameS (start3 c) ++ fieldsText (verdictS (start3 c) ∷ [])) (bufS (start3 c)) (buf2 c) (at2 c)
+put2 c = put-field (nameS (start3 c)) [] (verdictS (start3 c)) _ _ (put-start (nameS (start3 c)) (put1 (c .before .before .before .before))) (room2 (start3 c)) (c .before .before .write-verdict .ensures)
 
 -- and after the figure
 put3 : (c : tie.After-slice-known4)
@@ -93,10 +100,10 @@ copy-requires : tie.Need-copy-requires
 copy-requires c κs = rw (name-front (c .before .before .before .before .before .before .args .row) (c .before .before .before .name-len .result) (c .before .before .before .name-len .ensures)) (room1 (c .before .before .before .before .before .before))
 
 sub-write-verdict : tie.Need-sub-write-verdict
-sub-write-verdict c = put-within (put1 c) (room1 (c .before .before .before .before .before .before .before .before .before))
+sub-write-verdict c = put-within (put1 c) (room1 (start2 c))
 
 part-write-verdict-start : tie.Need-part-write-verdict-start
-part-write-verdict-start c = put-within (put1 c) (room1 (c .before .before .before .before .before .before .before .before .before))
+part-write-verdict-start c = put-within (put1 c) (room1 (start2 c))
 
 part-write-verdict-end : tie.Need-part-write-verdict-end
 part-write-verdict-end c = search needs
@@ -108,10 +115,10 @@ add-at : tie.Need-add-at
 add-at c = omega (arith, put2 c .end, room2 (c .before .before .before .before .before .before .before .before .before .before .before .before .before), c .before .before .before .before .before .before .before .before .before .before .before .before .before .good)
 
 sub-write-figure : tie.Need-sub-write-figure
-sub-write-figure c = put-within (put2 c) (room2 (c .before .before .before .before .before .before .before .before .before .before .before .before .before))
+sub-write-figure c = put-within (put2 c) (room2 (start3 c))
 
 part-write-figure-start : tie.Need-part-write-figure-start
-part-write-figure-start c = put-within (put2 c) (room2 (c .before .before .before .before .before .before .before .before .before .before .before .before .before))
+part-write-figure-start c = put-within (put2 c) (room2 (start3 c))
 
 part-write-figure-end : tie.Need-part-write-figure-end
 part-write-figure-end c = search needs

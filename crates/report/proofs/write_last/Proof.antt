@@ -14,6 +14,13 @@ use borrow.Author.Needs.{needs}
 use Rattle.report.proofs.write_last.Statement.{statement}
 use Rattle.report.proofs.write_last.Tie as tie
 
+-- back from where the buffer has grown to the start
+abbrev start2 : tie.After-slice-known2 → tie.Start
+start2 c = c .before .before .before .before .before .before
+
+abbrev start3 : tie.After-slice-known3 → tie.Start
+start3 c = c .before .before .before .before .before .before .before .before .before .before
+
 -- the buffer as the call begins, and the fields
 abbrev bufS : tie.Start → List ℕ
 bufS s = s .args .out .now
@@ -36,10 +43,10 @@ first-room s = omega (arith, room s, length-append first (fieldsText (wordS s �
 abbrev buf1 : tie.After-slice-known2 → List ℕ
 buf1 c = c .before .before .copy .last .1 .0
 
-put1 : (c : tie.After-slice-known2) → Put first (bufS (c .before .before .before .before .before .before)) (buf1 c) (c .before .before .copy .result)
+put1 : (c : tie.After-slice-known2) → Put first (bufS (start2 c)) (buf1 c) (c .before .before .copy .result)
 put1 c =
     let e = c .before .before .copy .ensures in
-    put-over first (bufS (c .before .before .before .before .before .before)) (buf1 c) (c .before .before .copy .result) (e .0) (e .1 ∙ copied first (bufS (c .before .before .before .before .before .before)) _ refl) (first-room (c .before .before .before .before .before .before))
+    put-over first (bufS (start2 c)) (buf1 c) (c .before .before .copy .result) (e .0) (e .1 ∙ copied first (bufS (start2 c)) _ refl) (first-room (start2 c))
 
 -- after the verdict
 abbrev at2 : tie.After-slice-known3 → ℕ
@@ -48,13 +55,13 @@ at2 c = c .before .before .before .before .before .before .copy .result + c .bef
 abbrev buf2 : tie.After-slice-known3 → List ℕ
 buf2 c = spliced (buf1 (c .before .before .before .before)) (c .before .before .before .before .before .before .copy .result) (c .before .before .write-table-verdict .last .1 .0)
 
-put2 : (c : tie.After-slice-known3) → Put (first ++ fieldsText (wordS (c .before .before .before .before .before .before .before .before .before .before) ∷ [])) (bufS (c .before .before .before .before .before .before .before .before .before .before)) (buf2 c) (at2 c)
-put2 c = put-field first [] (wordS (c .before .before .before .before .before .before .before .before .before .before)) _ _ (put-start first (put1 (c .before .before .before .before))) (omega (arith, room (c .before .before .before .before .before .before .before .before .before .before))) (c .before .before .write-table-verdict .ensures)
+put2 : (c : tie.After-slice-known3) → Put (first ++ fieldsText (wordS (start3 c) ∷ [])) (bufS (start3 c)) (buf2 c) (at2 c)
+put2 c = put-field first [] (wordS (start3 c)) _ _ (put-start first (put1 (c .before .before .before .before))) (omega (arith, room (start3 c))) (c .before .before .write-table-verdict .ensures)
 
 -- and after the line feed
-put3 : (c : tie.After-slice-known3) → Put (lastLine (c .before .before .before .before .before .before .before .before .before .before .args .verdict)) (bufS (c .before .before .before .before .before .before .before .before .before .before)) (set (buf2 c) (at2 c) lineFeed) (at2 c + 1)
+put3 : (c : tie.After-slice-known3) → Put (lastLine (start3 c .args .verdict)) (bufS (start3 c)) (set (buf2 c) (at2 c) lineFeed) (at2 c + 1)
 unfolding lastLine line
-put3 c = put-byte lineFeed (put2 c) (room (c .before .before .before .before .before .before .before .before .before .before))
+put3 c = put-byte lineFeed (put2 c) (room (start3 c))
 
 slice-aggregate-copy : tie.Need-slice-aggregate-copy
 slice-aggregate-copy c = search needs
@@ -63,10 +70,10 @@ copy-requires : tie.Need-copy-requires
 copy-requires c κs = first-room (c .before .before .before)
 
 sub-write-table-verdict : tie.Need-sub-write-table-verdict
-sub-write-table-verdict c = put-within (put1 c) (first-room (c .before .before .before .before .before .before))
+sub-write-table-verdict c = put-within (put1 c) (first-room (start2 c))
 
 part-write-table-verdict-start : tie.Need-part-write-table-verdict-start
-part-write-table-verdict-start c = put-within (put1 c) (first-room (c .before .before .before .before .before .before))
+part-write-table-verdict-start c = put-within (put1 c) (first-room (start2 c))
 
 part-write-table-verdict-end : tie.Need-part-write-table-verdict-end
 part-write-table-verdict-end c = search needs
@@ -79,7 +86,7 @@ add-at c = omega (arith, put2 c .end, room (c .before .before .before .before .b
 
 slice-write-out : tie.Need-slice-write-out
 slice-write-out c =
-    let h : at2 c < length (buf2 c) = omega (arith, put2 c .end, put2 c .kept, room (c .before .before .before .before .before .before .before .before .before .before)) in
+    let h : at2 c < length (buf2 c) = omega (arith, put2 c .end, put2 c .kept, room (start3 c)) in
     h
 
 add-result : tie.Need-add-result

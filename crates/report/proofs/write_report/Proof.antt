@@ -16,6 +16,25 @@ use borrow.Author.Needs.{needs}
 use Rattle.report.proofs.write_report.Statement.{statement}
 use Rattle.report.proofs.write_report.Tie as tie
 
+-- back from where the buffer has grown to the start, and to where its length was found enough
+abbrev start0 : tie.After-last-len → tie.Start
+start0 c = c .before .before .before .before
+
+abbrev start1 : tie.Else1 → tie.Start
+start1 c = c .before .before .before .before .before
+
+abbrev start2 : tie.After-slice-known2 → tie.Start
+start2 c = c .before .before .before .before .before .before .before .before .before
+
+abbrev start3 : tie.After-slice-known3 → tie.Start
+start3 c = c .before .before .before .before .before .before .before .before .before .before .before .before .before
+
+abbrev chosen2 : tie.After-slice-known2 → tie.Else1
+chosen2 c = c .before .before .before .before
+
+abbrev chosen3 : tie.After-slice-known3 → tie.Else1
+chosen3 c = c .before .before .before .before .before .before .before .before
+
 -- the buffer as the call begins, and the report
 abbrev bufS : tie.Start → List ℕ
 bufS s = s .args .out .now
@@ -40,31 +59,31 @@ short : (s : tie.Start) → length (reportS s) ≤ longestReport
 short s = report-short (s .args .table) (s .pre)
 
 -- the length, as it was measured
-measured : (c : tie.After-last-len) → c .before .lines-len .result + c .last-len .result ≡ length (reportS (c .before .before .before .before))
+measured : (c : tie.After-last-len) → c .before .lines-len .result + c .last-len .result ≡ length (reportS (start0 c))
 measured c = omega (arith, lengths (c .before .before), c .before .lines-len .ensures, c .last-len .ensures)
 
 -- there is room for the whole report, and for its parts
-room : (c : tie.Else1) → length (reportS (c .before .before .before .before .before)) ≤ length (bufS (c .before .before .before .before .before))
+room : (c : tie.Else1) → length (reportS (start1 c)) ≤ length (bufS (start1 c))
 room c = omega (arith, measured (c .before), c .if1 .left)
 
-both-room : (c : tie.Else1) → length (linesC (c .before .before .before)) + length (lastC (c .before .before .before)) ≤ length (bufS (c .before .before .before .before .before))
+both-room : (c : tie.Else1) → length (linesC (c .before .before .before)) + length (lastC (c .before .before .before)) ≤ length (bufS (start1 c))
 both-room c = omega (arith, room c, lengths (c .before .before .before))
 
-lines-room : (c : tie.Else1) → length (linesC (c .before .before .before)) ≤ length (bufS (c .before .before .before .before .before))
+lines-room : (c : tie.Else1) → length (linesC (c .before .before .before)) ≤ length (bufS (start1 c))
 lines-room c = omega (arith, both-room c)
 
 -- the buffer after the lines
 abbrev buf1 : tie.After-slice-known2 → List ℕ
 buf1 c = c .before .before .write-lines .last .1 .1 .0
 
-put1 : (c : tie.After-slice-known2) → Put (linesC (c .before .before .before .before .before .before .before)) (bufS (c .before .before .before .before .before .before .before .before .before)) (buf1 c) (c .before .before .write-lines .result)
+put1 : (c : tie.After-slice-known2) → Put (linesC (c .before .before .before .before .before .before .before)) (bufS (start2 c)) (buf1 c) (c .before .before .write-lines .result)
 put1 c =
     let e = c .before .before .write-lines .ensures in
-    put-over _ _ _ _ (e .0) (e .1) (lines-room (c .before .before .before .before))
+    put-over _ _ _ _ (e .0) (e .1) (lines-room (chosen2 c))
 
 -- and after the last line
-put2 : (c : tie.After-slice-known3) → Put (reportS (c .before .before .before .before .before .before .before .before .before .before .before .before .before)) (bufS (c .before .before .before .before .before .before .before .before .before .before .before .before .before)) (spliced (buf1 (c .before .before .before .before)) (c .before .before .before .before .before .before .write-lines .result) (c .before .before .write-last .last .1 .0)) (c .before .before .before .before .before .before .write-lines .result + c .before .before .write-last .result)
-put2 c = rw (parts (c .before .before .before .before .before .before .before .before .before .before .before)) (put-part _ _ _ (put1 (c .before .before .before .before)) (both-room (c .before .before .before .before .before .before .before .before)) (c .before .before .write-last .ensures))
+put2 : (c : tie.After-slice-known3) → Put (reportS (start3 c)) (bufS (start3 c)) (spliced (buf1 (c .before .before .before .before)) (c .before .before .before .before .before .before .write-lines .result) (c .before .before .write-last .last .1 .0)) (c .before .before .before .before .before .before .write-lines .result + c .before .before .write-last .result)
+put2 c = rw (parts (c .before .before .before .before .before .before .before .before .before .before .before)) (put-part _ _ _ (put1 (c .before .before .before .before)) (both-room (chosen3 c)) (c .before .before .write-last .ensures))
 
 table-figures-requires : tie.Need-table-figures-requires
 table-figures-requires c κs = search needs
@@ -76,7 +95,7 @@ last-len-requires : tie.Need-last-len-requires
 last-len-requires c κs = search needs
 
 add-if1 : tie.Need-add-if1
-add-if1 c = omega (arith, measured c, short (c .before .before .before .before))
+add-if1 c = omega (arith, measured c, short (start0 c))
 
 returns : tie.Need-returns
 returns c =
@@ -89,10 +108,10 @@ write-lines-requires : tie.Need-write-lines-requires
 write-lines-requires c κs = (rows-few (c .before .before .before .before .before .before .args .table) (c .before .before .before .before .before .before .pre), lines-room (c .before))
 
 sub-write-last : tie.Need-sub-write-last
-sub-write-last c = put-within (put1 c) (lines-room (c .before .before .before .before))
+sub-write-last c = put-within (put1 c) (lines-room (chosen2 c))
 
 part-write-last-start : tie.Need-part-write-last-start
-part-write-last-start c = put-within (put1 c) (lines-room (c .before .before .before .before))
+part-write-last-start c = put-within (put1 c) (lines-room (chosen2 c))
 
 part-write-last-end : tie.Need-part-write-last-end
 part-write-last-end c = search needs

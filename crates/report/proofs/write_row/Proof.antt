@@ -14,6 +14,13 @@ use borrow.Author.Needs.{needs}
 use Rattle.report.proofs.write_row.Statement.{statement}
 use Rattle.report.proofs.write_row.Tie as tie
 
+-- back from where the buffer has grown to the start
+abbrev start2 : tie.After-slice-known2 → tie.Start
+start2 c = c .before .before .before .before .before
+
+abbrev start3 : tie.After-slice-known3 → tie.Start
+start3 c = c .before .before .before .before .before .before .before .before .before
+
 -- the buffer as the call begins, and the parts of the line
 abbrev bufS : tie.Start → List ℕ
 bufS s = s .args .out .now
@@ -40,10 +47,10 @@ both-room s = omega (arith, room s, length-append (frontS s) (restS s))
 abbrev buf1 : tie.After-slice-known2 → List ℕ
 buf1 c = c .before .before .write-judged .last .1 .1 .0
 
-put1 : (c : tie.After-slice-known2) → Put (frontS (c .before .before .before .before .before)) (bufS (c .before .before .before .before .before)) (buf1 c) (c .before .before .write-judged .result)
+put1 : (c : tie.After-slice-known2) → Put (frontS (start2 c)) (bufS (start2 c)) (buf1 c) (c .before .before .write-judged .result)
 put1 c =
     let e = c .before .before .write-judged .ensures in
-    put-over _ _ _ _ (e .0) (e .1) (front-room (c .before .before .before .before .before))
+    put-over _ _ _ _ (e .0) (e .1) (front-room (start2 c))
 
 -- after the rest
 abbrev at2 : tie.After-slice-known3 → ℕ
@@ -52,21 +59,21 @@ at2 c = c .before .before .before .before .before .before .write-judged .result 
 abbrev buf2 : tie.After-slice-known3 → List ℕ
 buf2 c = spliced (buf1 (c .before .before .before .before)) (c .before .before .before .before .before .before .write-judged .result) (c .before .before .write-bounds .last .1 .0)
 
-put2 : (c : tie.After-slice-known3) → Put (frontS (c .before .before .before .before .before .before .before .before .before) ++ restS (c .before .before .before .before .before .before .before .before .before)) (bufS (c .before .before .before .before .before .before .before .before .before)) (buf2 c) (at2 c)
-put2 c = put-part _ _ _ (put1 (c .before .before .before .before)) (omega (arith, room (c .before .before .before .before .before .before .before .before .before))) (c .before .before .write-bounds .ensures)
+put2 : (c : tie.After-slice-known3) → Put (frontS (start3 c) ++ restS (start3 c)) (bufS (start3 c)) (buf2 c) (at2 c)
+put2 c = put-part _ _ _ (put1 (c .before .before .before .before)) (omega (arith, room (start3 c))) (c .before .before .write-bounds .ensures)
 
 -- and after the line feed
-put3 : (c : tie.After-slice-known3) → Put (rowLine (rowOf (c .before .before .before .before .before .before .before .before .before .args .row)) (c .before .before .before .before .before .before .before .before .before .args .figures)) (bufS (c .before .before .before .before .before .before .before .before .before)) (set (buf2 c) (at2 c) lineFeed) (at2 c + 1)
-put3 c = rw (row-parts (rowOf (c .before .before .before .before .before .before .before .before .before .args .row)) (c .before .before .before .before .before .before .before .before .before .args .figures)) (put-byte lineFeed (put2 c) (both-room (c .before .before .before .before .before .before .before .before .before)))
+put3 : (c : tie.After-slice-known3) → Put (rowLine (rowOf (start3 c .args .row)) (start3 c .args .figures)) (bufS (start3 c)) (set (buf2 c) (at2 c) lineFeed) (at2 c + 1)
+put3 c = rw (row-parts (rowOf (start3 c .args .row)) (start3 c .args .figures)) (put-byte lineFeed (put2 c) (both-room (start3 c)))
 
 write-judged-requires : tie.Need-write-judged-requires
 write-judged-requires c κs = front-room (c .before .before)
 
 sub-write-bounds : tie.Need-sub-write-bounds
-sub-write-bounds c = put-within (put1 c) (front-room (c .before .before .before .before .before))
+sub-write-bounds c = put-within (put1 c) (front-room (start2 c))
 
 part-write-bounds-start : tie.Need-part-write-bounds-start
-part-write-bounds-start c = put-within (put1 c) (front-room (c .before .before .before .before .before))
+part-write-bounds-start c = put-within (put1 c) (front-room (start2 c))
 
 part-write-bounds-end : tie.Need-part-write-bounds-end
 part-write-bounds-end c = search needs
@@ -79,7 +86,7 @@ add-at c = omega (arith, put2 c .end, both-room (c .before .before .before .befo
 
 slice-write-out : tie.Need-slice-write-out
 slice-write-out c =
-    let h : at2 c < length (buf2 c) = omega (arith, put2 c .end, put2 c .kept, both-room (c .before .before .before .before .before .before .before .before .before)) in
+    let h : at2 c < length (buf2 c) = omega (arith, put2 c .end, put2 c .kept, both-room (start3 c)) in
     h
 
 add-result : tie.Need-add-result

@@ -17,6 +17,13 @@ use borrow.Author.Needs.{needs}
 use Rattle.runs.proofs.write_row.Statement.{statement}
 use Rattle.runs.proofs.write_row.Tie as tie
 
+-- back from where the buffer has grown to the start
+abbrev start2 : tie.After-slice-known2 → tie.Start
+start2 c = c .before .before .before .before .before .before .before .before
+
+abbrev start3 : tie.After-slice-known3 → tie.Start
+start3 c = c .before .before .before .before .before .before .before .before .before .before .before .before
+
 -- the buffer as the call begins, and the fields
 abbrev bufS : tie.Start → List ℕ
 bufS s = s .args .out .now
@@ -38,9 +45,9 @@ name-room s = omega (arith, room s, length-append (nameS s) (fieldsText (firstS 
 abbrev buf1 : tie.After-slice-known2 → List ℕ
 buf1 c = c .before .before .copy .last .1 .0
 
-put1 : (c : tie.After-slice-known2) → Put (nameS (c .before .before .before .before .before .before .before .before)) (bufS (c .before .before .before .before .before .before .before .before)) (buf1 c) (c .before .before .copy .result)
+put1 : (c : tie.After-slice-known2) → Put (nameS (start2 c)) (bufS (start2 c)) (buf1 c) (c .before .before .copy .result)
 put1 c =
-    let s = c .before .before .before .before .before .before .before .before in
+    let s = start2 c in
     let e = c .before .before .copy .ensures in
     let n = name-front (s .args .row) (c .before .before .before .before .before .name-len .result) (c .before .before .before .before .before .name-len .ensures) in
     put-over (nameS s) (bufS s) (buf1 c) (c .before .before .copy .result) (e .0 ∙ ap length n) (e .1 ∙ copied _ (bufS s) _ refl ∙ ap (λ (l : List ℕ). over l (bufS s)) n) (name-room s)
@@ -52,15 +59,15 @@ at2 c = c .before .before .before .before .before .before .copy .result + c .bef
 abbrev buf2 : tie.After-slice-known3 → List ℕ
 buf2 c = spliced (buf1 (c .before .before .before .before)) (c .before .before .before .before .before .before .copy .result) (c .before .before .write-first .last .1 .0)
 
-put2 : (c : tie.After-slice-known3) → Put (nameS (c .before .before .before .before .before .before .before .before .before .before .before .before) ++ fieldsText (firstS (c .before .before .before .before .before .before .before .before .before .before .before .before) ∷ [])) (bufS (c .before .before .before .before .before .before .before .before .before .before .before .before)) (buf2 c) (at2 c)
+put2 : (c : tie.After-slice-known3) → Put (nameS (start3 c) ++ fieldsText (firstS (start3 c) ∷ [])) (bufS (start3 c)) (buf2 c) (at2 c)
 put2 c =
-    let s = c .before .before .before .before .before .before .before .before .before .before .before .before in
+    let s = start3 c in
     put-field (nameS s) [] (firstS s) _ _ (put-start (nameS s) (put1 (c .before .before .before .before))) (omega (arith, room s)) (c .before .before .write-first .ensures)
 
 -- and after the line feed
-put3 : (c : tie.After-slice-known3) → Put (line (nameS (c .before .before .before .before .before .before .before .before .before .before .before .before)) (firstS (c .before .before .before .before .before .before .before .before .before .before .before .before) ∷ [])) (bufS (c .before .before .before .before .before .before .before .before .before .before .before .before)) (set (buf2 c) (at2 c) lineFeed) (at2 c + 1)
+put3 : (c : tie.After-slice-known3) → Put (line (nameS (start3 c)) (firstS (start3 c) ∷ [])) (bufS (start3 c)) (set (buf2 c) (at2 c) lineFeed) (at2 c + 1)
 unfolding line
-put3 c = put-byte lineFeed (put2 c) (room (c .before .before .before .before .before .before .before .before .before .before .before .before))
+put3 c = put-byte lineFeed (put2 c) (room (start3 c))
 
 name-len-requires : tie.Need-name-len-requires
 name-len-requires c κs = search needs
@@ -80,10 +87,10 @@ copy-requires : tie.Need-copy-requires
 copy-requires c κs = rw (name-front (c .before .before .before .before .before .args .row) (c .before .before .name-len .result) (c .before .before .name-len .ensures)) (name-room (c .before .before .before .before .before))
 
 sub-write-first : tie.Need-sub-write-first
-sub-write-first c = put-within (put1 c) (name-room (c .before .before .before .before .before .before .before .before))
+sub-write-first c = put-within (put1 c) (name-room (start2 c))
 
 part-write-first-start : tie.Need-part-write-first-start
-part-write-first-start c = put-within (put1 c) (name-room (c .before .before .before .before .before .before .before .before))
+part-write-first-start c = put-within (put1 c) (name-room (start2 c))
 
 part-write-first-end : tie.Need-part-write-first-end
 part-write-first-end c = search needs
@@ -96,7 +103,7 @@ add-at c = omega (arith, put2 c .end, room (c .before .before .before .before .b
 
 slice-write-out : tie.Need-slice-write-out
 slice-write-out c =
-    let h : at2 c < length (buf2 c) = omega (arith, put2 c .end, put2 c .kept, room (c .before .before .before .before .before .before .before .before .before .before .before .before)) in
+    let h : at2 c < length (buf2 c) = omega (arith, put2 c .end, put2 c .kept, room (start3 c)) in
     h
 
 add-result : tie.Need-add-result

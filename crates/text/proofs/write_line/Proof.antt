@@ -18,6 +18,19 @@ use borrow.Author.Needs.{needs}
 use Rattle.text.proofs.write_line.Statement.{statement}
 use Rattle.text.proofs.write_line.Tie as tie
 
+-- back from where the buffer has grown to the start
+abbrev start2 : tie.After-slice-known2 → tie.Start
+start2 c = c .before .before .before .before .before .before .before .before .before .before
+
+abbrev start3 : tie.After-slice-known3 → tie.Start
+start3 c = c .before .before .before .before .before .before .before .before .before .before .before .before .before .before
+
+abbrev start4 : tie.After-slice-known4 → tie.Start
+start4 c = c .before .before .before .before .before .before .before .before .before .before .before .before .before .before .before .before .before .before
+
+abbrev start5 : tie.After-slice-known5 → tie.Start
+start5 c = c .before .before .before .before .before .before .before .before .before .before .before .before .before .before .before .before .before .before .before .before .before .before
+
 -- the buffer as the call begins, and the fields
 abbrev bufS : tie.Start → List ℕ
 bufS s = s .args .out .now
@@ -63,9 +76,9 @@ room1 s = omega (arith, room2 s, length-append (nameS s) (fieldsText (periodS s 
 abbrev buf1 : tie.After-slice-known2 → List ℕ
 buf1 c = c .before .before .copy .last .1 .0
 
-put1 : (c : tie.After-slice-known2) → Put (nameS (c .before .before .before .before .before .before .before .before .before .before)) (bufS (c .before .before .before .before .before .before .before .before .before .before)) (buf1 c) (c .before .before .copy .result)
+put1 : (c : tie.After-slice-known2) → Put (nameS (start2 c)) (bufS (start2 c)) (buf1 c) (c .before .before .copy .result)
 put1 c =
-    let s = c .before .before .before .before .before .before .before .before .before .before in
+    let s = start2 c in
     let e = c .before .before .copy .ensures in
     let n = name-front (s .args .row) (c .before .before .before .before .before .before .before .name-len .result) (c .before .before .before .before .before .before .before .name-len .ensures) in
     put-over (nameS s) (bufS s) (buf1 c) (c .before .before .copy .result) (e .0 ∙ ap length n) (e .1 ∙ copied _ (bufS s) _ refl ∙ ap (λ (l : List ℕ). over l (bufS s)) n) (room1 s)
@@ -77,9 +90,9 @@ at2 c = c .before .before .before .before .before .before .copy .result + c .bef
 abbrev buf2 : tie.After-slice-known3 → List ℕ
 buf2 c = spliced (buf1 (c .before .before .before .before)) (c .before .before .before .before .before .before .copy .result) (c .before .before .write-number .last .1 .0)
 
-put2 : (c : tie.After-slice-known3) → Put (nameS (c .before .before .before .before .before .before .before .before .before .before .before .before .before .before) ++ fieldsText (periodS (c .before .before .before .before .before .before .before .before .before .before .before .before .before .before) ∷ [])) (bufS (c .before .before .before .before .before .before .before .before .before .before .before .before .before .before)) (buf2 c) (at2 c)
+put2 : (c : tie.After-slice-known3) → Put (nameS (start3 c) ++ fieldsText (periodS (start3 c) ∷ [])) (bufS (start3 c)) (buf2 c) (at2 c)
 put2 c =
-    let s = c .before .before .before .before .before .before .before .before .before .before .before .before .before .before in
+    let s = start3 c in
     put-field (nameS s) [] (periodS s) _ _ (put-start (nameS s) (put1 (c .before .before .before .before))) (room2 s) (c .before .before .write-number .ensures)
 
 -- after D
@@ -89,9 +102,9 @@ at3 c = at2 (c .before .before .before .before) + c .before .before .write-numbe
 abbrev buf3 : tie.After-slice-known4 → List ℕ
 buf3 c = spliced (buf2 (c .before .before .before .before)) (at2 (c .before .before .before .before)) (c .before .before .write-number2 .last .1 .0)
 
-put3 : (c : tie.After-slice-known4) → Put (headS (c .before .before .before .before .before .before .before .before .before .before .before .before .before .before .before .before .before .before)) (bufS (c .before .before .before .before .before .before .before .before .before .before .before .before .before .before .before .before .before .before)) (buf3 c) (at3 c)
+put3 : (c : tie.After-slice-known4) → Put (headS (start4 c)) (bufS (start4 c)) (buf3 c) (at3 c)
 put3 c =
-    let s = c .before .before .before .before .before .before .before .before .before .before .before .before .before .before .before .before .before .before in
+    let s = start4 c in
     put-field (nameS s) (periodS s ∷ []) (deadlineS s) _ _ (put2 (c .before .before .before .before)) (room3 s) (c .before .before .write-number2 .ensures)
 
 -- after the times
@@ -101,15 +114,15 @@ at4 c = at3 (c .before .before .before .before) + c .before .before .write-times
 abbrev buf4 : tie.After-slice-known5 → List ℕ
 buf4 c = spliced (buf3 (c .before .before .before .before)) (at3 (c .before .before .before .before)) (c .before .before .write-times .last .1 .1 .0)
 
-put4 : (c : tie.After-slice-known5) → Put (headS (c .before .before .before .before .before .before .before .before .before .before .before .before .before .before .before .before .before .before .before .before .before .before) ++ timesS (c .before .before .before .before .before .before .before .before .before .before .before .before .before .before .before .before .before .before .before .before .before .before)) (bufS (c .before .before .before .before .before .before .before .before .before .before .before .before .before .before .before .before .before .before .before .before .before .before)) (buf4 c) (at4 c)
+put4 : (c : tie.After-slice-known5) → Put (headS (start5 c) ++ timesS (start5 c)) (bufS (start5 c)) (buf4 c) (at4 c)
 put4 c =
-    let s = c .before .before .before .before .before .before .before .before .before .before .before .before .before .before .before .before .before .before .before .before .before .before in
+    let s = start5 c in
     let n = c .before .before .before .before .before .before .before .before .before .before .before .before .before .before .before .before .before .count in
     put-part _ _ _ (put3 (c .before .before .before .before)) (times-room s) (rw (times-front (s .args .row) (n .result) (n .ensures)) at (c .before .before .write-times .ensures))
 
 -- and after the line feed
-put5 : (c : tie.After-slice-known5) → Put (lineText (rowOf (c .before .before .before .before .before .before .before .before .before .before .before .before .before .before .before .before .before .before .before .before .before .before .args .row))) (bufS (c .before .before .before .before .before .before .before .before .before .before .before .before .before .before .before .before .before .before .before .before .before .before)) (set (buf4 c) (at4 c) lineFeed) (at4 c + 1)
-put5 c = rw (parts (c .before .before .before .before .before .before .before .before .before .before .before .before .before .before .before .before .before .before .before .before .before .before)) (put-byte lineFeed (put4 c) (room4 (c .before .before .before .before .before .before .before .before .before .before .before .before .before .before .before .before .before .before .before .before .before .before)))
+put5 : (c : tie.After-slice-known5) → Put (lineText (rowOf (start5 c .args .row))) (bufS (start5 c)) (set (buf4 c) (at4 c) lineFeed) (at4 c + 1)
+put5 c = rw (parts (start5 c)) (put-byte lineFeed (put4 c) (room4 (start5 c)))
 
 name-len-requires : tie.Need-name-len-requires
 name-len-requires c κs = search needs
@@ -132,10 +145,10 @@ copy-requires : tie.Need-copy-requires
 copy-requires c κs = rw (name-front (c .before .before .before .before .before .before .before .args .row) (c .before .before .before .before .name-len .result) (c .before .before .before .before .name-len .ensures)) (room1 (c .before .before .before .before .before .before .before))
 
 sub-write-number : tie.Need-sub-write-number
-sub-write-number c = put-within (put1 c) (room1 (c .before .before .before .before .before .before .before .before .before .before))
+sub-write-number c = put-within (put1 c) (room1 (start2 c))
 
 part-write-number-start : tie.Need-part-write-number-start
-part-write-number-start c = put-within (put1 c) (room1 (c .before .before .before .before .before .before .before .before .before .before))
+part-write-number-start c = put-within (put1 c) (room1 (start2 c))
 
 part-write-number-end : tie.Need-part-write-number-end
 part-write-number-end c = search needs
@@ -147,10 +160,10 @@ add-at : tie.Need-add-at
 add-at c = omega (arith, put2 c .end, room2 (c .before .before .before .before .before .before .before .before .before .before .before .before .before .before), c .before .before .before .before .before .before .before .before .before .before .before .before .before .before .good)
 
 sub-write-number-2 : tie.Need-sub-write-number-2
-sub-write-number-2 c = put-within (put2 c) (room2 (c .before .before .before .before .before .before .before .before .before .before .before .before .before .before))
+sub-write-number-2 c = put-within (put2 c) (room2 (start3 c))
 
 part-write-number-start-2 : tie.Need-part-write-number-start-2
-part-write-number-start-2 c = put-within (put2 c) (room2 (c .before .before .before .before .before .before .before .before .before .before .before .before .before .before))
+part-write-number-start-2 c = put-within (put2 c) (room2 (start3 c))
 
 part-write-number-end-2 : tie.Need-part-write-number-end-2
 part-write-number-end-2 c = search needs
@@ -162,10 +175,10 @@ add-at-2 : tie.Need-add-at-2
 add-at-2 c = omega (arith, put3 c .end, room3 (c .before .before .before .before .before .before .before .before .before .before .before .before .before .before .before .before .before .before), c .before .before .before .before .before .before .before .before .before .before .before .before .before .before .before .before .before .before .good)
 
 sub-write-times : tie.Need-sub-write-times
-sub-write-times c = put-within (put3 c) (room3 (c .before .before .before .before .before .before .before .before .before .before .before .before .before .before .before .before .before .before))
+sub-write-times c = put-within (put3 c) (room3 (start4 c))
 
 part-write-times-start : tie.Need-part-write-times-start
-part-write-times-start c = put-within (put3 c) (room3 (c .before .before .before .before .before .before .before .before .before .before .before .before .before .before .before .before .before .before))
+part-write-times-start c = put-within (put3 c) (room3 (start4 c))
 
 part-write-times-end : tie.Need-part-write-times-end
 part-write-times-end c = search needs
@@ -183,7 +196,7 @@ add-at-3 c = omega (arith, put4 c .end, room4 (c .before .before .before .before
 
 slice-write-out : tie.Need-slice-write-out
 slice-write-out c =
-    let h : at4 c < length (buf4 c) = omega (arith, put4 c .end, put4 c .kept, room4 (c .before .before .before .before .before .before .before .before .before .before .before .before .before .before .before .before .before .before .before .before .before .before)) in
+    let h : at4 c < length (buf4 c) = omega (arith, put4 c .end, put4 c .kept, room4 (start5 c)) in
     h
 
 add-result : tie.Need-add-result
