@@ -12,13 +12,13 @@ use Rattle.words.specs.Lists.{sum, all}
 use Rattle.words.proofs.Choice.{and-parts}
 use Rattle.table.specs.Limits.{mostStretches}
 use Rattle.table.specs.Paper.{Row, Part, part, behind, parts, rightNumber, rightRow}
-use Rattle.table.proofs.Rules.{row-count, row-times, row-sum, count-most}
+use Rattle.table.proofs.Rules.{row-count, row-times, row-sum, count-most, number-range}
 use Rattle.verdicts.specs.declared.Bound.{Bound}
 use Rattle.verdicts.specs.declared.Bound.the-variants.{Whole, Split}
 use Rattle.verdicts.specs.declared.Verdict.the-variants.{Fits}
 use Rattle.figures.specs.Figures.{right, result, rounds, own, whole, split, verdict, unlessNone, splitRounds, withSplit, rowRounds}
 use Rattle.figures.specs.Answers.{splitShown}
-use Rattle.figures.proofs.Rows.{sane, number-some}
+use Rattle.figures.proofs.Rows.{sane}
 use Rattle.figures.proofs.Verdicts.{fits-bound, split-some, whole-fixed, stretch-rounds}
 
 -- each stretch takes 1 tick or more, and at most d
@@ -33,7 +33,7 @@ within-behind d [] e h = tt
 within-behind d (s ∷ []) e h = tt
 within-behind d (s ∷ c ∷ l) e h =
     let p = and-parts (and-parts e .1) in
-    (number-some c (p .0), omega arith, within-behind d l (p .1) (omega arith))
+    (number-range c (p .0) .0, omega arith, within-behind d l (p .1) (omega arith))
 
 -- and so do all stretches
 within-parts : (d : ℕ) (times : List ℕ) → all rightNumber times ≡ true → sum times ≤ d → Within d (parts times)
@@ -41,7 +41,7 @@ unfolding all sum
 within-parts d [] e h = tt
 within-parts d (c ∷ l) e h =
     let p = and-parts e in
-    (number-some c (p .0), omega arith, within-behind d l (p .1) (omega arith))
+    (number-range c (p .0) .0, omega arith, within-behind d l (p .1) (omega arith))
 
 -- a stretch behind the first has two times, its own and the suspension before it
 behind-count : (l : List ℕ) → 2 * length (behind l) ≤ length l

@@ -12,10 +12,6 @@ use Rattle.table.specs.Paper.{Row, Part, part, behind, parts, work, total, righ
 use Rattle.table.proofs.Rules.{number-range, row-period, row-count, row-times, row-order, row-sum}
 use Rattle.figures.specs.Figures.{own}
 
--- a right number is 1 or more
-pub number-some : (n : ℕ) → rightNumber n ≡ true → 1 ≤ n
-number-some n e = number-range n e .0
-
 behind-sum : (l : List ℕ) → length l % 2 ≡ 0 → total (behind l) ≡ sum l
 unfolding sum
 behind-sum [] e = refl
@@ -31,7 +27,7 @@ parts-sum (c ∷ l) e = omega (arith, behind-sum l (omega arith))
 parts-some : (times : List ℕ) → length times % 2 ≡ 1 → all rightNumber times ≡ true → 1 ≤ total (parts times)
 unfolding all
 parts-some [] e h = absurd (omega arith)
-parts-some (c ∷ l) e h = omega (arith, number-some c (and-parts h .0))
+parts-some (c ∷ l) e h = omega (arith, number-range c (and-parts h .0) .0)
 
 work-behind : (l : List ℕ) → work (behind l) ≡ work (parts (drop 1 l))
 work-behind [] = refl
@@ -67,7 +63,7 @@ sane r e =
       own-some = parts-some (r .times) odd (row-times r e);
       own-fits = omega (arith, parts-sum (r .times) odd, row-sum r e);
       deadline-fits = row-order r e;
-      period-some = number-some (r .period) (row-period r e);
+      period-some = number-range (r .period) (row-period r e) .0;
     }
 
 -- a right row that does not wait has one time, its C

@@ -9,7 +9,8 @@ use borrow.Author.Tests.{not-true}
 use Rattle.words.specs.Lists.{all, any}
 use Rattle.words.proofs.Choice.{and-parts, or-parts}
 use Rattle.table.specs.Paper.{Row, Table, rowAt, part, behind, parts, total, rightNumber, rightRow, waits, rightRows, rightTable}
-use Rattle.figures.proofs.Rows.{sane, number-some, one-time}
+use Rattle.table.proofs.Rules.{number-range}
+use Rattle.figures.proofs.Rows.{sane, one-time}
 use Rattle.promises.proofs.Finish.{Positive}
 
 -- what the promises need of a table
@@ -54,12 +55,12 @@ positive-behind [] e = tt
 positive-behind (s ∷ []) e = tt
 positive-behind (s ∷ c ∷ l) e =
     let rest = and-parts (and-parts e .1) in
-    (number-some c (rest .0), positive-behind l (rest .1))
+    (number-range c (rest .0) .0, positive-behind l (rest .1))
 
 positive-parts : (times : List ℕ) → all rightNumber times ≡ true → Positive (parts times)
 unfolding all
 positive-parts [] e = tt
-positive-parts (c ∷ l) e = (number-some c (and-parts e .0), positive-behind l (and-parts e .1))
+positive-parts (c ∷ l) e = (number-range c (and-parts e .0) .0, positive-behind l (and-parts e .1))
 
 -- each stretch of a right row takes 1 tick or more
 pub positive : (r : Row) → rightRow r ≡ true → Positive (parts (r .times))

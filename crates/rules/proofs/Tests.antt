@@ -10,7 +10,8 @@ use borrow.Author.Tests.{eqb-true, le-leb}
 use Rattle.words.specs.Choice.{_and_, _or_}
 use Rattle.words.specs.Lists.{all, any, upTo, padded}
 use Rattle.words.proofs.Choice.{and-parts, and-both, tests-same}
-use Rattle.words.proofs.Lists.{all-append, padded-upTo, padded-ends, zeros-are}
+use Rattle.words.proofs.Lists.{padded-upTo, padded-ends, zeros-are, all-snoc}
+use Rattle.words.proofs.Filled.{map-snoc}
 use Rattle.table.specs.declared.Row.{Row as RowValue}
 use Rattle.table.specs.declared.Table.{Table as TableValue}
 use Rattle.table.specs.Limits.{mostRows, mostTimes, longestName}
@@ -74,14 +75,6 @@ waits-value (r ∷ t) e =
     let k = waits-value t (and-parts e .1) in
     ap (λ (q : Row). waits q or any waitsValue (values t)) h ∙ ap (λ (b : Bool). waits r or b) k
 
-values-snoc : (above : Table) (r : Row) → values (above ++ (r ∷ [])) ≡ values above ++ (rowValue r ∷ [])
-values-snoc [] r = refl
-values-snoc (a ∷ above) r = ap (λ (l : List RowValue). rowValue a ∷ l) (values-snoc above r)
-
-all-snoc : (above : Table) (r : Row) → all rightRow above ≡ true → rightRow r ≡ true → all rightRow (above ++ (r ∷ [])) ≡ true
-unfolding all
-all-snoc above r p q = all-append rightRow above (r ∷ []) p (and-both q refl)
-
 -- right rows pass the tests, as values
 rows-pass : (above t : Table) → all rightRow above ≡ true → rightRows above t ≡ true → rowsTest (values above) (values t) ≡ true
 unfolding rightRows rowsTest
@@ -94,7 +87,7 @@ rows-pass above (r ∷ t) p e =
     and-both (ap not (waits-value above p) ∙ a .0)
     (and-both (row-passes r (b .0))
     (and-both (ap not n ∙ d .0)
-    (rw (← values-snoc above r) (rows-pass (above ++ (r ∷ [])) t (all-snoc above r p (b .0)) (d .1)))))
+    (rw (← map-snoc rowValue above r) (rows-pass (above ++ (r ∷ [])) t (all-snoc rightRow above r ∙ and-both p (b .0)) (d .1)))))
 
 -- values that pass the tests are those of right rows
 rows-back : (above : Table) (vs : List RowValue) → AllSized vs → all rightRow above ≡ true → rowsTest (values above) vs ≡ true
@@ -109,8 +102,8 @@ rows-back above (v ∷ vs) z p e =
     let n : nameIn (v .name) (values above) ≡ named (rowOf v .name) above
     = ap (λ (w : RowValue). nameIn (w .name) (values above)) (f .0) ∙ named-value (rowOf v .name) above (row-name (rowOf v) (f .1)) p in
     let s : values above ++ (v ∷ []) ≡ values (above ++ (rowOf v ∷ []))
-    = ap (λ (w : RowValue). values above ++ (w ∷ [])) (f .0) ∙ sym (values-snoc above (rowOf v)) in
-    let g = rows-back (above ++ (rowOf v ∷ [])) vs (z .1) (all-snoc above (rowOf v) p (f .1)) (rw s at (d .1)) in (
+    = ap (λ (w : RowValue). values above ++ (w ∷ [])) (f .0) ∙ sym (map-snoc rowValue above (rowOf v)) in
+    let g = rows-back (above ++ (rowOf v ∷ [])) vs (z .1) (all-snoc rightRow above (rowOf v) ∙ and-both p (f .1)) (rw s at (d .1)) in (
       ap (λ (l : List RowValue). v ∷ l) (g .0) ∙ ap (λ (w : RowValue). w ∷ values (map rowOf vs)) (f .0),
       and-both (ap not (sym (waits-value above p)) ∙ a .0) (and-both (f .1) (and-both (ap not (sym n) ∙ d .0) (g .1))),
     )

@@ -9,7 +9,7 @@ use lib.ListN.{length, take, getD, set, replicate, length-map, length-append}
 use lib.Seq.{take-all, take-length, take-suc, length-take-le, set-at, append-snoc, getD-append-seam}
 use Rattle.words.specs.Lists.{below}
 
-map-snoc : {A B : Type 0} (f : A → B) (xs : List A) (x : A) → map f (xs ++ (x ∷ [])) ≡ map f xs ++ (f x ∷ [])
+pub map-snoc : {A B : Type 0} (f : A → B) (xs : List A) (x : A) → map f (xs ++ (x ∷ [])) ≡ map f xs ++ (f x ∷ [])
 map-snoc f [] x = refl
 map-snoc f (a ∷ xs) x = ap (λ l. f a ∷ l) (map-snoc f xs x)
 
