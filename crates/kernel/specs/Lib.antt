@@ -1,6 +1,2 @@
 pub mod Rules
-pub mod Run
-pub mod Tick
-pub mod Noted
-pub mod Safe
-pub mod Queue
+pub mod Completion

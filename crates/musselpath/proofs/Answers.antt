@@ -20,10 +20,11 @@ use Rattle.table.specs.Value.{tableOf, wellFormed}
 use Rattle.table.specs.declared.Table.{Table as TableValue}
 use Rattle.text.specs.declared.Written.the-variants.{Bytes, Refused}
 use Rattle.text.specs.Write.{lengthIn}
-use Rattle.kernel.specs.declared.Slot.{Slot}
-use Rattle.kernel.specs.declared.FullRun.{FullRun}
-use Rattle.kernel.specs.Run.{completion, slotOf, noSlot, completions, fullRun}
-use Rattle.kernel.proofs.Completions.{run-there}
+use Rattle.machine.specs.declared.Slot.{Slot}
+use Rattle.machine.specs.declared.FullRun.{FullRun}
+use Rattle.kernel.specs.Completion.{completion}
+use Rattle.machine.specs.Run.{slotOf, noSlot, completions, fullRun}
+use Rattle.machine.proofs.Completions.{run-there}
 use Rattle.musselpath.specs.Boundary.{instantOf, instants}
 use Rattle.musselpath.specs.Parts.{firstNumber, numbersOf}
 

@@ -13,7 +13,7 @@ use Rattle.ticks.specs.Ticks.{most}
 use Rattle.table.specs.Limits.{mostRows, mostTicks}
 use Rattle.table.specs.Paper.{Table, rowAt}
 use Rattle.text.specs.Read.{Answer, accepted, refused, readText}
-use Rattle.kernel.specs.Run.{completion}
+use Rattle.kernel.specs.Completion.{completion}
 
 -- a completion instant; all ones where the job isn't complete
 abbrev pub instantOf : Option ℕ → ℕ

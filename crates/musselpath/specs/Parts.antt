@@ -4,10 +4,10 @@ use Prim.Native.Nat.{ℕ}
 use lib.ListN.{getD}
 use Rattle.words.specs.Lists.{below}
 use Rattle.ticks.specs.Ticks.{most}
-use Rattle.kernel.specs.declared.First.{First}
-use Rattle.kernel.specs.declared.First.the-variants.{At, Not}
-use Rattle.kernel.specs.declared.Slot.{Slot}
-use Rattle.kernel.specs.Run.{noSlot}
+use Rattle.machine.specs.declared.First.{First}
+use Rattle.machine.specs.declared.First.the-variants.{At, Not}
+use Rattle.machine.specs.declared.Slot.{Slot}
+use Rattle.machine.specs.Run.{noSlot}
 
 -- a completion, as a number
 abbrev pub firstNumber : First → ℕ

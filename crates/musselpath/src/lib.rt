@@ -11,7 +11,7 @@ ghost use Rattle.text.specs.Read.{accepted};
 ghost use Rattle.report.specs.Report.{answerText};
 ghost use Rattle.musselpath.specs.Boundary.{instants, numberFor, leftFor, runNumber, runLeft};
 ghost use Rattle.musselpath.specs.Parts.{firstNumber};
-use kernel::First;
+use machine::First;
 use refusals::Refusal;
 use table::Table;
 use text::Outcome;
@@ -53,7 +53,7 @@ fn put_instants(table: Table, ticks: u64, out: &mut [u64])
     requires { ⌜ (wellFormed table ≡ true) × (ticks ≤ mostTicks) × (mostRows ≤ length (now out)) ⌝ }
     ensures { λ _. ⌜ now (out .exit) ≡ over (instants (tableOf table) ticks) (now (out .entry)) ⌝ }
 {
-    let run = kernel::full_run(table, ticks);
+    let run = machine::full_run(table, ticks);
     let slots = run.rows;
     let n = table.len;
     let mut i: usize = 0;

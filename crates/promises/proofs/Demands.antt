@@ -29,7 +29,7 @@ use Rattle.ticks.specs.declared.Length.{Length}
 use Rattle.ticks.specs.declared.Instant.{Instant}
 use Rattle.verdicts.specs.declared.Bound.{Bound}
 use Rattle.verdicts.specs.declared.Verdict.the-variants.{Fits}
-use Rattle.kernel.specs.declared.First.the-variants.{At}
+use Rattle.machine.specs.declared.First.the-variants.{At}
 use Rattle.figures.specs.declared.RowFigures.{RowFigures}
 use Rattle.figures.specs.Figures.{verdict}
 use Rattle.figures.specs.Answers.{rowAnswer, figuresOf, tableFigures}
@@ -38,11 +38,12 @@ use Rattle.report.proofs.Fits.{answer-fits}
 use Rattle.figures.specs.declared.Answer.the-variants.{Row as RowIs}
 use Rattle.figures.proofs.Verdicts.{one-fits, one-misses, one-whole, waiting-whole, waiting-split, waiting-open, waiting-misses}
 use Rattle.words.proofs.Filled.{filled-at}
-use Rattle.kernel.specs.declared.FullRun.{FullRun}
-use Rattle.kernel.specs.declared.Slot.{Slot}
+use Rattle.machine.specs.declared.FullRun.{FullRun}
+use Rattle.machine.specs.declared.Slot.{Slot}
 use Rattle.kernel.specs.Rules.{Job, job, after, full, Complete}
-use Rattle.kernel.specs.Run.{firstDone, orElse, completion, slotOf, completions, fullRun}
-use Rattle.kernel.proofs.Completions.{run-there}
+use Rattle.kernel.specs.Completion.{firstDone, orElse, completion}
+use Rattle.machine.specs.Run.{slotOf, completions, fullRun}
+use Rattle.machine.proofs.Completions.{run-there}
 use Rattle.promises.specs.Demands.{RefusedText, RefusedTable, ShortBuffer, TextBack, Answered, OneText, TableBack, Asked, OneStretch, WaitingRow, InTime, FullRunLegal, Exact, Missed, completed}
 use Rattle.promises.proofs.Fits.{rules, fits-deadline, fits-in-time}
 use Rattle.promises.proofs.Exact.{full-legal, exact-before, exact-from, exact-misses}

@@ -1,6 +1,6 @@
 -- THE THREE DEMANDS, about the meanings of the public functions, for every input. proofs/Demands shows each of them.
 -- text::read is `readText`, text::write is `written` and `writtenInto`, figures::row_figures is `rowAnswer`, figures::table_figures is
--- `tableFigures`, report::write is `reported` and `reportedInto`, report::answer is `answerText`, kernel::full_run is `fullRun`: the contracts say so.
+-- `tableFigures`, report::write is `reported` and `reportedInto`, report::answer is `answerText`, machine::full_run is `fullRun`: the contracts say so.
 use mathlib.Core.Path.{_≡_}
 use mathlib.Core.Bool.{true, false}
 use mathlib.Core.List.{List}
@@ -30,10 +30,10 @@ use Rattle.figures.specs.Figures.{right, own, whole, split}
 use Rattle.figures.specs.Answers.{rowAnswer, refusedFigures, tableFigures}
 use Rattle.refused.specs.Refused.{refusedLine}
 use Rattle.report.specs.Report.{reportText, answerText, reported, reportedInto, longestReport}
-use Rattle.kernel.specs.declared.First.{First}
-use Rattle.kernel.specs.declared.First.the-variants.{At, Not}
+use Rattle.machine.specs.declared.First.{First}
+use Rattle.machine.specs.declared.First.the-variants.{At, Not}
 use Rattle.kernel.specs.Rules.{Input, LegalRun, after, full, Complete}
-use Rattle.kernel.specs.Run.{slotOf, refusedRun, fullRun}
+use Rattle.machine.specs.Run.{slotOf, refusedRun, fullRun}
 
 -- ---- 1: a bad text or table is refused, gives an empty table or no figures, and no lent byte changes
 

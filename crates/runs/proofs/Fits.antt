@@ -21,8 +21,8 @@ use Rattle.table.proofs.Rules.{row-name, name-length, table-size, table-right}
 use Rattle.text.specs.Read.{Answer, accepted, refused, readText}
 use Rattle.text.proofs.Back.{text-right}
 use Rattle.text.proofs.Places.{text-place}
-use Rattle.kernel.specs.Run.{completion}
-use Rattle.kernel.proofs.Completions.{completion-most}
+use Rattle.kernel.specs.Completion.{completion}
+use Rattle.machine.proofs.Completions.{completion-most}
 use Rattle.refused.specs.Refused.{refusedLine}
 use Rattle.refused.proofs.Lines.{place-none, refused-length}
 use Rattle.refused.proofs.Fits.{refused-fits}

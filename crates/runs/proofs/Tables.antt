@@ -24,11 +24,12 @@ use Rattle.text.specs.declared.Reading.{Reading}
 use Rattle.text.specs.Read.{Answer, accepted, readText, readingOf}
 use Rattle.text.proofs.Back.{reading-accepted, reading-refused}
 use Rattle.table.proofs.Used.{row-is, len-is}
-use Rattle.kernel.specs.declared.Outcome.the-variants.{Ran, Refused}
-use Rattle.kernel.specs.declared.Slot.{Slot}
-use Rattle.kernel.specs.declared.FullRun.{FullRun}
-use Rattle.kernel.specs.Run.{completion, slotOf, noSlot, completions, fullRun}
-use Rattle.kernel.proofs.Completions.{run-there, run-many}
+use Rattle.machine.specs.declared.Outcome.the-variants.{Ran, Refused}
+use Rattle.machine.specs.declared.Slot.{Slot}
+use Rattle.machine.specs.declared.FullRun.{FullRun}
+use Rattle.kernel.specs.Completion.{completion}
+use Rattle.machine.specs.Run.{slotOf, noSlot, completions, fullRun}
+use Rattle.machine.proofs.Completions.{run-there, run-many}
 use Rattle.refused.specs.Refused.{refusedLine}
 use Rattle.runs.specs.Runs.{instantText, runLine, runText, answerTo, runAnswer, longestRun}
 use Rattle.runs.specs.Parts.{firstText, lineAt, linesText}

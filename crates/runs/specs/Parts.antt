@@ -8,10 +8,10 @@ use Rattle.decimal.specs.Decimal.{digits}
 use Rattle.fields.specs.Fields.{line, joined}
 use Rattle.table.specs.Value.{noValue, rowOf}
 use Rattle.table.specs.declared.Row.{Row as RowValue}
-use Rattle.kernel.specs.declared.First.{First}
-use Rattle.kernel.specs.declared.First.the-variants.{At, Not}
-use Rattle.kernel.specs.declared.Slot.{Slot}
-use Rattle.kernel.specs.Run.{noSlot}
+use Rattle.machine.specs.declared.First.{First}
+use Rattle.machine.specs.declared.First.the-variants.{At, Not}
+use Rattle.machine.specs.declared.Slot.{Slot}
+use Rattle.machine.specs.Run.{noSlot}
 
 -- a completion, as the machine has it
 abbrev pub firstText : First → List ℕ

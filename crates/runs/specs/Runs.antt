@@ -13,7 +13,7 @@ use Rattle.refusals.specs.declared.Refusal.the-variants.{ManyTicks}
 use Rattle.table.specs.Limits.{mostRows, longestName, mostTicks}
 use Rattle.table.specs.Paper.{Row, Table, rowAt}
 use Rattle.text.specs.Read.{Answer, accepted, refused, readText}
-use Rattle.kernel.specs.Run.{completion}
+use Rattle.kernel.specs.Completion.{completion}
 use Rattle.refused.specs.Refused.{refusedLine}
 
 -- the instant of a completion; a hyphen where the job isn't complete

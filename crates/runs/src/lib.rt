@@ -13,8 +13,8 @@ ghost use Rattle.text.specs.Write.{lengthIn};
 ghost use Rattle.runs.specs.Runs.{answerTo, runAnswer, longestRun};
 ghost use Rattle.runs.specs.Parts.{firstText, linesText};
 use fields::LINE_FEED;
-use kernel::First;
-use kernel::FullRun;
+use machine::First;
+use machine::FullRun;
 use refusals::Refusal;
 use table::Row;
 use table::Table;
@@ -110,11 +110,11 @@ fn write_run(table: Table, ticks: u64, out: &mut [u8]) -> Written
     requires { ⌜ wellFormed table ≡ true ⌝ }
     ensures { λ r. ⌜ (r ≡ lengthIn (answerTo (accepted (tableOf table)) ticks) (now (out .entry))) × (now (out .exit) ≡ placed (answerTo (accepted (tableOf table)) ticks) (now (out .entry))) ⌝ }
 {
-    let run = kernel::full_run(table, ticks);
+    let run = machine::full_run(table, ticks);
     let outcome = run.outcome;
     match outcome {
-        kernel::Outcome::Refused(why) => refused::write(why, out),
-        kernel::Outcome::Ran => {
+        machine::Outcome::Refused(why) => refused::write(why, out),
+        machine::Outcome::Ran => {
             if out.len() < lines_len(table, run) {
                 return Written::Refused(Refusal::NoRoom);
             }

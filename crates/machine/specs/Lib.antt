@@ -1,0 +1,5 @@
+pub mod Run
+pub mod Tick
+pub mod Noted
+pub mod Safe
+pub mod Queue
