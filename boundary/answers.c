@@ -123,7 +123,7 @@ static void answer_report(size_t len)
 
 static uint64_t instants[1 + ELEMENTS + 1];
 
-static uint32_t ask_run(const uint8_t *text, size_t text_len, uint64_t ticks, size_t out_len)
+static uint64_t ask_run(const uint8_t *text, size_t text_len, uint64_t ticks, size_t out_len)
 {
     fill(instants, sizeof instants);
     return musselpath_full_run(text, text_len, ticks, instants + 1, out_len);
@@ -169,29 +169,37 @@ static void put_run(const uint8_t *text, size_t len)
     }
 }
 
-/* The number alone for 23. A refusal of the text has a place, which only the report tells. */
-static void put_refused(const uint8_t *text, size_t len, uint32_t refusal)
+/* The line of the refusal: the number alone for 23, else with its place, which has to be the one that the report tells. */
+static void put_refused(const uint8_t *text, size_t len, uint64_t answer)
 {
-    char begin[32];
-    if (refusal == TOO_LONG) {
+    char line[64];
+    if (MUSSELPATH_NUMBER(answer) == TOO_LONG) {
+        expect(answer == TOO_LONG, "23 has a place");
         printf("refused\t%d\n", TOO_LONG);
         return;
     }
+    size_t line_len = (size_t)sprintf(line, "refused\t%u\t%u\t%u\n", MUSSELPATH_NUMBER(answer), MUSSELPATH_LINE(answer), MUSSELPATH_FIELD(answer));
     size_t report = report_of(text, len);
-    size_t begin_len = (size_t)sprintf(begin, "refused\t%u\t", (unsigned)refusal);
-    expect(report > begin_len && memcmp(lent + BEYOND, begin, begin_len) == 0, "the run and the report refuse a text differently");
-    put(lent + BEYOND, report);
+    expect(report == line_len && memcmp(lent + BEYOND, line, line_len) == 0, "the run and the report refuse a text differently");
+    put((const uint8_t *)line, line_len);
 }
 
-/* What comes before 22 still does so with a short buffer, and 23 holds for every greater number of ticks. */
-static void try_short_and_long(const uint8_t *text, size_t len, uint64_t ticks, uint32_t refusal)
+/*
+ * A buffer with an element for each row is enough, and one less is refused by 22; what comes before 22 still does so with a short
+ * buffer, and 23 holds for every greater number of ticks.
+ */
+static void try_short_and_long(const uint8_t *text, size_t len, uint64_t ticks, uint64_t answer, size_t rows)
 {
-    uint32_t expected = refusal == 0 ? TOO_SHORT : refusal;
-    expect(ask_run(text, len, ticks, MUSSELPATH_ROWS - 1) == expected, "a run buffer of 15 is not refused by 22, or not after all others");
-    expect(rows_alone_changed(0), "a run buffer of 15 was changed");
+    uint64_t expected = answer == 0 ? TOO_SHORT : answer;
+    if (answer == 0) {
+        expect(ask_run(text, len, ticks, rows) == 0, "a run buffer with an element for each row was refused");
+        expect(rows_alone_changed(rows), "an element beyond the last row was changed");
+        expect(ask_run(text, len, ticks, rows - 1) == expected, "a run buffer of one element less than rows is not refused by 22");
+        expect(rows_alone_changed(0), "a run buffer that is too short was changed");
+    }
     expect(ask_run(text, len, ticks, 0) == expected, "a run buffer of 0 is not refused by 22, or not after all others");
     expect(rows_alone_changed(0), "a run buffer of 0 was changed");
-    expected = refusal == 0 ? TOO_LONG : refusal;
+    expected = answer == 0 ? TOO_LONG : answer;
     expect(ask_run(text, len, UINT64_MAX, 0) == expected, "too many ticks are not refused by 23, or not after the text");
     expect(rows_alone_changed(0), "a run of too many ticks changed its buffer");
 }
@@ -205,16 +213,17 @@ static void answer_run(size_t item_len)
     }
     const uint8_t *text = item + 4;
     size_t len = item_len - 4;
-    size_t out_len = number % 2 ? MUSSELPATH_ROWS : ELEMENTS; /* the least, and more than are used */
-    uint32_t refusal = ask_run(text, len, ticks, out_len);
-    if (refusal == 0) {
-        expect(rows_alone_changed(count_lines(text, len)), "an element beyond the last row was changed");
+    size_t rows = count_lines(text, len);
+    size_t out_len = number % 2 ? MUSSELPATH_ROWS : ELEMENTS; /* room for every run, and more than are used */
+    uint64_t answer = ask_run(text, len, ticks, out_len);
+    if (answer == 0) {
+        expect(rows_alone_changed(rows), "an element beyond the last row was changed");
         put_run(text, len);
     } else {
         expect(rows_alone_changed(0), "a refused run changed its buffer");
-        put_refused(text, len, refusal);
+        put_refused(text, len, answer);
     }
-    try_short_and_long(text, len, ticks, refusal);
+    try_short_and_long(text, len, ticks, answer, rows);
 }
 
 int main(int argc, char **argv)

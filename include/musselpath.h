@@ -5,7 +5,8 @@
  *
  * What holds of both functions:
  *
- * - Any bytes may be handed in as a text. A bad one is refused by a fixed number; nothing has to be tested beforehand.
+ * - Any bytes may be handed in as a text. A bad one is refused by a fixed number and its place; nothing has to be tested
+ *   beforehand.
  * - A pointer has to point to as many elements as the length beside it says, and must not be null, also where that length is 0.
  *   The lent buffer `out` must not overlap the text. This is all that a caller has to see to.
  * - The text is only read. Of `out` the answer alone is written: what lies beyond it is unchanged, and where nothing is answered
@@ -27,7 +28,7 @@
 extern "C" {
 #endif
 
-/* The most rows of a table, and the least length of a buffer for musselpath_full_run. */
+/* The most rows of a table: a buffer of so many elements has room for every full run. */
 #define MUSSELPATH_ROWS 16
 
 /* The most bytes of a table text. A longer text is refused by 2, however long it is. */
@@ -47,10 +48,15 @@ extern "C" {
  * refused text there is one line instead: "refused", number, line and field. A row may be named table or refused: tell the
  * lines apart by their fields, of which a row has 6, the last line 2 and the refused line 4. There is no zero byte at the end.
  *
- * Where `out` is too short for the whole of it, the answer is 0 and `out` is unchanged. No report has 0 bytes, and none has more
- * than MUSSELPATH_REPORT.
+ * Where `out` is too short for the whole of it, the answer is 0 and `out` is unchanged: that is refusal 22, the only one of this
+ * function, since the refused line of a text is its answer. No report has 0 bytes, and none has more than MUSSELPATH_REPORT.
  */
 uint64_t musselpath_report(const uint8_t *text, uint64_t text_len, uint8_t *out, uint64_t out_len);
+
+/* What musselpath_full_run answers: the number of the refusal, its line and its field, each from 1, or 0 where it has none. */
+#define MUSSELPATH_NUMBER(answer) ((unsigned)((uint64_t)(answer) & 0xffff))
+#define MUSSELPATH_LINE(answer) ((unsigned)(((uint64_t)(answer) >> 16) & 0xffff))
+#define MUSSELPATH_FIELD(answer) ((unsigned)((uint64_t)(answer) >> 32))
 
 /*
  * Carries out the full run of a table text: all rows released at 0 and every T, full times, for so many ticks.
@@ -58,13 +64,14 @@ uint64_t musselpath_report(const uint8_t *text, uint64_t text_len, uint8_t *out,
  * Answers 0, and then `out` holds, for each row in the order of the text, the completion instant of its first job, or
  * MUSSELPATH_NOT_COMPLETE. `out_len` counts elements, not bytes. Elements beyond the last row are unchanged.
  *
- * Otherwise answers the number of the refusal, and `out` is unchanged. The first that applies is given:
+ * Otherwise answers the refusal, number + 65536 * line + 4294967296 * field, and `out` is unchanged. The first that applies is
+ * given:
  *
- *    1 to 11  the text is bad; musselpath_report of the same text has the line and the field
- *    23       more than 1,000,000 ticks
- *    22       `out` has fewer than MUSSELPATH_ROWS elements, however many rows the table has
+ *    1 to 11  the text is bad, at that line and field
+ *    23       more than 1,000,000 ticks; no line, no field
+ *    22       `out` has fewer elements than the table has rows; no line, no field
  */
-uint32_t musselpath_full_run(const uint8_t *text, uint64_t text_len, uint64_t ticks, uint64_t *out, uint64_t out_len);
+uint64_t musselpath_full_run(const uint8_t *text, uint64_t text_len, uint64_t ticks, uint64_t *out, uint64_t out_len);
 
 #ifdef __cplusplus
 }

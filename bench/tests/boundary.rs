@@ -1,7 +1,7 @@
 //! The static library against the second program, on drawn input, right and
 //! damaged. No seed here is one of the stored vectors'.
 
-use musselpath::{NOT_COMPLETE, REPORT, ROWS};
+use musselpath::{Refusal, NOT_COMPLETE, REPORT, ROWS};
 use second::cases;
 use second::draw::{self, Random};
 use second::{report, run, run_cases, stream, table};
@@ -92,7 +92,7 @@ fn element(place: usize) -> u64 {
 
 /// Asks for a full run with a buffer of so many elements, and tells what was
 /// answered once all else is seen to be unchanged.
-fn run_asked(text: &[u8], ticks: u64, room: usize, rows: usize) -> Result<Vec<u64>, u32> {
+fn run_asked(text: &[u8], ticks: u64, room: usize, rows: usize) -> Result<Vec<u64>, Refusal> {
     let before: Vec<u64> = (0..room + 2).map(element).collect();
     let mut buffer = before.clone();
     let answer = musselpath::full_run_into(text, ticks, &mut buffer[1..=room]);
@@ -103,9 +103,17 @@ fn run_asked(text: &[u8], ticks: u64, room: usize, rows: usize) -> Result<Vec<u6
 }
 
 /// The second program's answer, as the library gives it.
-fn run_expected(text: &[u8], ticks: u64) -> Result<Vec<Option<u64>>, u32> {
+fn run_expected(text: &[u8], ticks: u64) -> Result<Vec<Option<u64>>, Refusal> {
     let answer = table::read(text).and_then(|table| run::run_fast(&table, ticks));
-    answer.map_err(|refusal| refusal.number)
+    answer.map_err(|refusal| {
+        let (line, field) = refusal.place.unwrap_or((0, 0));
+        Refusal { number: refusal.number as u16, line: line as u16, field: field as u32 }
+    })
+}
+
+/// A refusal that has no place.
+fn alone(number: u16) -> Refusal {
+    Refusal { number, line: 0, field: 0 }
 }
 
 fn check_run(text: &[u8], ticks: u64) {
@@ -117,11 +125,12 @@ fn check_run(text: &[u8], ticks: u64) {
     });
     assert_eq!(run_asked(text, ticks, ROWS, rows), instants, "{why}");
     assert_eq!(run_asked(text, ticks, ROWS + 5, rows), instants, "{why}");
-    // 22 comes last, and 23 only once the text is right.
+    assert_eq!(run_asked(text, ticks, rows, rows), instants, "{why}");
+    // 22 comes last, for one element less than rows, and 23 only once the text is right.
     let refusal = expected.as_ref().err().copied();
-    assert_eq!(run_asked(text, ticks, ROWS - 1, rows), Err(refusal.unwrap_or(22)), "{why}");
-    assert_eq!(run_asked(text, ticks, 0, rows), Err(refusal.unwrap_or(22)), "{why}");
-    assert_eq!(run_asked(text, u64::MAX, 0, rows), Err(refusal.unwrap_or(23)), "{why}");
+    assert_eq!(run_asked(text, ticks, rows.saturating_sub(1), rows), Err(refusal.unwrap_or(alone(22))), "{why}");
+    assert_eq!(run_asked(text, ticks, 0, rows), Err(refusal.unwrap_or(alone(22))), "{why}");
+    assert_eq!(run_asked(text, u64::MAX, 0, rows), Err(refusal.unwrap_or(alone(23))), "{why}");
     let padded = expected.map(|first| {
         let mut padded = [None; ROWS];
         padded[..first.len()].copy_from_slice(&first);

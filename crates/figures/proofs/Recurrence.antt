@@ -12,18 +12,9 @@ use lib.ListN.{length}
 use borrow.Author.Tests.{eqb-true, eqb-false, ltb-true, ltb-false, eq-eqb, ne-eqb}
 use Rattle.words.proofs.Choice.{or-parts, or-false, if-true, if-false}
 use Rattle.table.specs.Paper.{Row, parts, work}
+use Rattle.figures.specs.Fixed.{Smallest, NoneUpTo}
 use Rattle.figures.specs.Figures.{demand, stops, sequenceFrom, sequence, last, settled, result, rounds}
 use Rattle.figures.proofs.Arrivals.{arrivals-mono}
-
--- the smallest positive fixed point
-pub record Least (f : ℕ → ℕ) (R : ℕ) : Type 0 where
-  pub positive : 1 ≤ R
-  pub fixed : f R ≡ R
-  pub least : (y : ℕ) → 1 ≤ y → f y ≡ y → R ≤ y
-
--- no positive fixed point is d or below
-abbrev pub NoneUpTo : ℕ → (ℕ → ℕ) → Type 0
-NoneUpTo d f = (y : ℕ) → 1 ≤ y → f y ≡ y → d < y
 
 module _ (f : ℕ → ℕ) (d : ℕ) where
   why-stopped : (t : ℕ) → stops f d t ≡ true → (f t ≡ t) ⊎ (d < f t)
@@ -77,7 +68,7 @@ module _ (f : ℕ → ℕ) (d : ℕ) where
           ends (d - c) c (stops f d c) refl (record { up = above c; low = fits; under = λ y e. omega (arith, above y) }) (omega arith)
 
       data Answer : Type 0 where
-        found : (R : ℕ) → result f d c ≡ some R → Least f R → R ≤ d → ((y : ℕ) → f y ≤ y → R ≤ y) → Answer
+        found : (R : ℕ) → result f d c ≡ some R → Smallest f R → R ≤ d → ((y : ℕ) → f y ≤ y → R ≤ y) → Answer
         missing : result f d c ≡ none → ((y : ℕ) → f y ≤ y → d < y) → Answer
 
       answer : Answer
@@ -92,14 +83,14 @@ module _ (f : ℕ → ℕ) (d : ℕ) where
               (λ y h. omega (arith, mono z y (g .under y h)))
 
       -- the result is R exactly where R is the smallest positive fixed point, and at most d
-      pub result-some : (R : ℕ) → (result f d c ≡ some R) ↔ (Least f R × (R ≤ d))
+      pub result-some : (R : ℕ) → (result f d c ≡ some R) ↔ (Smallest f R × (R ≤ d))
       result-some R = (to answer, from answer)
         where
-          to : Answer → result f d c ≡ some R → Least f R × (R ≤ d)
+          to : Answer → result f d c ≡ some R → Smallest f R × (R ≤ d)
           to (found S e l le under) h = let z : S ≡ R = cc in (rw z at l, omega arith)
           to (missing e n) h = let z : _≡_ {A = ℕ} 0 1 = cc in absurd (omega arith)
 
-          from : Answer → Least f R × (R ≤ d) → result f d c ≡ some R
+          from : Answer → Smallest f R × (R ≤ d) → result f d c ≡ some R
           from (found S e l le under) h =
               let z : S ≡ R = omega (arith, l .least R (h .0 .positive) (h .0 .fixed), h .0 .least S (l .positive) (l .fixed)) in
               rw z at e

@@ -17,8 +17,9 @@ use Rattle.verdicts.specs.Verdicts.{atMost, single, lesser}
 use Rattle.verdicts.specs.declared.Bound.{Bound}
 use Rattle.verdicts.specs.declared.Bound.the-variants.{Whole, Split}
 use Rattle.verdicts.specs.declared.Verdict.the-variants.{Fits, Misses, Open}
+use Rattle.figures.specs.Fixed.{Smallest, NoneUpTo}
 use Rattle.figures.specs.Figures.{right, result, rounds, own, whole, split, splitFrom, judge, verdict, withSplit, rowRounds, splitRounds}
-use Rattle.figures.proofs.Recurrence.{Least, NoneUpTo, result-some, result-none, rounds-few, demand-mono}
+use Rattle.figures.proofs.Recurrence.{result-some, result-none, rounds-few, demand-mono}
 use Rattle.figures.proofs.Rows.{Sane, sane, one-time, more-times}
 
 -- the bound of that name, of whole and split
@@ -133,7 +134,7 @@ module _ (rows : ℕ → Row) (k : ℕ) where
     -- the recurrence of a stretch of c ticks, or of the whole row with all C and S
     module _ (c : ℕ) (c-some : 1 ≤ c) (c-fits : c ≤ rows k .deadline) where
       -- its result is R exactly where R is the smallest positive fixed point, and at most D
-      pub stretch-fixed : (R : ℕ) → (result (right rows k c) (rows k .deadline) c ≡ some R) ↔ (Least (right rows k c) R × (R ≤ rows k .deadline))
+      pub stretch-fixed : (R : ℕ) → (result (right rows k c) (rows k .deadline) c ≡ some R) ↔ (Smallest (right rows k c) R × (R ≤ rows k .deadline))
       stretch-fixed = result-some (right rows k c) (rows k .deadline) (right-mono c) c c-some c-fits (λ t. omega arith)
 
       -- there is none exactly where no positive fixed point is at most D
@@ -145,7 +146,7 @@ module _ (rows : ℕ → Row) (k : ℕ) where
       stretch-rounds = rounds-few (right rows k c) (rows k .deadline) (right-mono c) c c-some c-fits (λ t. omega arith)
 
     -- whole is R exactly where R is the smallest positive fixed point, and at most D
-    pub whole-fixed : (R : ℕ) → (whole rows k ≡ some R) ↔ (Least (right rows k (own (rows k))) R × (R ≤ rows k .deadline))
+    pub whole-fixed : (R : ℕ) → (whole rows k ≡ some R) ↔ (Smallest (right rows k (own (rows k))) R × (R ≤ rows k .deadline))
     whole-fixed = stretch-fixed (own (rows k)) (row .own-some) (row .own-fits)
 
     -- whole is none exactly where no positive fixed point is at most D
@@ -158,7 +159,7 @@ module _ (rows : ℕ → Row) (k : ℕ) where
           ap (λ l. judge (parts l) (whole rows k) (split rows k)) (one-time (rows k) (rules k (omega arith)) one .1)
 
       -- a row of one C fits with R exactly where R is the smallest positive fixed point, and at most D; its bound is whole
-      pub one-fits : (R : ℕ) → (verdict rows k ≡ Fits Whole (long R)) ↔ (Least (right rows k (own (rows k))) R × (R ≤ rows k .deadline))
+      pub one-fits : (R : ℕ) → (verdict rows k ≡ Fits Whole (long R)) ↔ (Smallest (right rows k (own (rows k))) R × (R ≤ rows k .deadline))
       one-fits R = Iff·trans (same one-judged) (Iff·trans (single-fits (whole rows k) R) (whole-fixed R))
 
       -- a row of one C misses exactly where no positive fixed point is at most D

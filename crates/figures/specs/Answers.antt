@@ -6,6 +6,7 @@ use lib.Dec.{leb}
 use lib.ListN.{length, replicate}
 use Rattle.words.specs.Choice.{if_then_else_, _and_}
 use Rattle.words.specs.Lists.{below}
+use Rattle.refusals.specs.Refusals.{numberOf}
 use Rattle.refusals.specs.declared.Refusal.{Refusal}
 use Rattle.refusals.specs.declared.Refusal.the-variants.{BadTable, NoSuchRow}
 use Rattle.table.specs.Limits.{mostRows}
@@ -15,7 +16,7 @@ use Rattle.table.specs.declared.Table.{Table as TableValue}
 use Rattle.verdicts.specs.Verdicts.{figureOf, overall}
 use Rattle.verdicts.specs.declared.Verdict.{Verdict}
 use Rattle.verdicts.specs.declared.TableVerdict.{TableVerdict}
-use Rattle.verdicts.specs.declared.TableVerdict.the-variants.{Refused as TableRefused}
+use Rattle.verdicts.specs.declared.TableVerdict.the-variants.{Fits as TableFits, Misses as TableMisses, Open as TableOpen, Refused as TableRefused}
 use Rattle.figures.specs.declared.RowFigures.{RowFigures}
 use Rattle.figures.specs.declared.Answer.{Answer}
 use Rattle.figures.specs.declared.Answer.the-variants.{Row as RowIs, Refused}
@@ -71,3 +72,15 @@ unfoldable pub tableFigures : TableValue → TableFigures
 tableFigures v =
     if wellFormed v then record { verdict = tableVerdict (tableOf v); rows = slots (tableOf v) }
     else refusedFigures BadTable
+
+-- the number of an answer about a row: 0 where it has figures
+abbrev pub numberOfAnswer : Answer → ℕ
+numberOfAnswer (RowIs f) = 0
+numberOfAnswer (Refused why) = numberOf why
+
+-- the number of a table's verdict: 0 where it is one
+abbrev pub numberOfVerdict : TableVerdict → ℕ
+numberOfVerdict TableFits = 0
+numberOfVerdict TableMisses = 0
+numberOfVerdict TableOpen = 0
+numberOfVerdict (TableRefused why) = numberOf why

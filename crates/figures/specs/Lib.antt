@@ -1,3 +1,4 @@
+pub mod Fixed
 pub mod Figures
 pub mod Answers
 pub mod Work

@@ -13,6 +13,8 @@ use Rattle.table.specs.Limits.{mostRows, mostTicks}
 use Rattle.table.specs.Paper.{Row, Table, rowAt}
 use Rattle.table.specs.Value.{tableOf, wellFormed}
 use Rattle.table.specs.declared.Table.{Table as TableValue}
+use Rattle.refusals.specs.Refusals.{numberOf}
+use Rattle.machine.specs.declared.Outcome.{Outcome}
 use Rattle.machine.specs.declared.Outcome.the-variants.{Ran, Refused}
 use Rattle.machine.specs.declared.First.{First}
 use Rattle.machine.specs.declared.First.the-variants.{At, Not}
@@ -27,7 +29,7 @@ slotOf none = record { first = Not }
 
 -- what is said to stand behind the end of an array of answers, where nothing does
 abbrev pub noSlot : Slot
-noSlot = record { first = At (record { 0 = 0 }) }
+noSlot = slotOf none
 
 -- the answers of all rows, and none behind the last
 unfoldable pub completions : Table → ℕ → List Slot
@@ -43,3 +45,8 @@ fullRun v n =
     if wellFormed v
     then (if ltb mostTicks n then refusedRun ManyTicks else record { outcome = Ran; rows = completions (tableOf v) n })
     else refusedRun BadTable
+
+-- the number of a run's outcome: 0 where it was carried out
+abbrev pub numberOfOutcome : Outcome → ℕ
+numberOfOutcome Ran = 0
+numberOfOutcome (Refused why) = numberOf why

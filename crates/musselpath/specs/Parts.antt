@@ -1,4 +1,4 @@
--- The parts of an answer, as the code has them. proofs/Runs shows that together they are `instants`.
+-- The parts of an answer, as the code has them. proofs/Answers shows that together they are `instants`.
 use mathlib.Core.List.{List, map}
 use Prim.Native.Nat.{ℕ}
 use lib.ListN.{getD}

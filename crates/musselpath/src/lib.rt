@@ -4,12 +4,12 @@ ghost use mathlib.Core.Bool.{true};
 ghost use Prim.Native.Nat.{_≤_};
 ghost use lib.ListN.{length};
 ghost use Rattle.words.specs.Buffer.{over, placed, fitted};
-ghost use Rattle.refusals.specs.Refusals.{numberOf};
-ghost use Rattle.table.specs.Limits.{mostRows, mostTicks};
+ghost use Rattle.refusals.specs.Refusals.{lineOf, fieldOf};
+ghost use Rattle.table.specs.Limits.{mostTicks};
 ghost use Rattle.table.specs.Value.{tableOf, wellFormed};
 ghost use Rattle.text.specs.Read.{accepted};
 ghost use Rattle.report.specs.Report.{answerText};
-ghost use Rattle.musselpath.specs.Boundary.{instants, numberFor, leftFor, runNumber, runLeft};
+ghost use Rattle.musselpath.specs.Boundary.{instants, shift, packed, answerFor, leftFor, runAnswered, runLeft};
 ghost use Rattle.musselpath.specs.Parts.{firstNumber};
 use machine::First;
 use refusals::Refusal;
@@ -19,6 +19,9 @@ use text::Written;
 
 // Stands for the instant of a job that is not complete.
 const NOT_COMPLETE: u64 = 18_446_744_073_709_551_615;
+
+// 2 to the 16th: so many times the line stands in an answer, and so many times that the field.
+const SHIFT: u64 = 65_536;
 
 // Puts the report of a text or the line of its refusal at the front of out, and answers how many bytes it has; 0, and out is unchanged, where out is too short.
 #[no_mangle]
@@ -31,11 +34,12 @@ pub extern "C" fn musselpath_report(text: &[u8], out: &mut [u8]) -> u64
     }
 }
 
-// A refusal's number.
-fn number(why: Refusal) -> u32
-    ensures { λ r. ⌜ r ≡ numberOf why ⌝ }
+// A refusal in one number: its number, its line shifted once, its field shifted twice.
+fn pack(why: Refusal) -> u64
+    requires { ⌜ (lineOf why ≤ shift) × (fieldOf why ≤ shift) ⌝ }
+    ensures { λ r. ⌜ r ≡ packed why ⌝ }
 {
-    why.number() as u32
+    why.number() + SHIFT * (why.line() as u64) + SHIFT * SHIFT * (why.field() as u64)
 }
 
 // A completion, as a number.
@@ -50,7 +54,7 @@ fn first_number(first: First) -> u64
 
 // The completion instants of a well-formed table's rows, at the front of out.
 fn put_instants(table: Table, ticks: u64, out: &mut [u64])
-    requires { ⌜ (wellFormed table ≡ true) × (ticks ≤ mostTicks) × (mostRows ≤ length (now out)) ⌝ }
+    requires { ⌜ (wellFormed table ≡ true) × (ticks ≤ mostTicks) × (length (tableOf table) ≤ length (now out)) ⌝ }
     ensures { λ _. ⌜ now (out .exit) ≡ over (instants (tableOf table) ticks) (now (out .entry)) ⌝ }
 {
     let run = machine::full_run(table, ticks);
@@ -66,29 +70,29 @@ fn put_instants(table: Table, ticks: u64, out: &mut [u64])
 }
 
 // The run of a well-formed table: 23, then 22, else its instants.
-fn run(table: Table, ticks: u64, out: &mut [u64]) -> u32
+fn run(table: Table, ticks: u64, out: &mut [u64]) -> u64
     requires { ⌜ wellFormed table ≡ true ⌝ }
-    ensures { λ r. ⌜ (r ≡ numberFor (accepted (tableOf table)) ticks (now (out .entry))) × (now (out .exit) ≡ leftFor (accepted (tableOf table)) ticks (now (out .entry))) ⌝ }
+    ensures { λ r. ⌜ (r ≡ answerFor (accepted (tableOf table)) ticks (now (out .entry))) × (now (out .exit) ≡ leftFor (accepted (tableOf table)) ticks (now (out .entry))) ⌝ }
 {
     if Table::TICKS < ticks {
-        return number(Refusal::ManyTicks);
+        return pack(Refusal::ManyTicks);
     }
-    if out.len() < Table::ROWS {
-        return number(Refusal::NoRoom);
+    if out.len() < table.len {
+        return pack(Refusal::NoRoom);
     }
     put_instants(table, ticks, out);
     0
 }
 
-// Puts the completion instants of the full run at the front of out, one for each row, and answers 0; or the refusal's number, and out is unchanged.
+// Puts the completion instants of the full run at the front of out, one for each row, and answers 0; or the refusal with its place, and out is unchanged.
 #[no_mangle]
-pub extern "C" fn musselpath_full_run(text: &[u8], ticks: u64, out: &mut [u64]) -> u32
-    ensures { λ r. ⌜ (r ≡ runNumber (now (text .entry)) ticks (now (out .entry))) × (now (out .exit) ≡ runLeft (now (text .entry)) ticks (now (out .entry))) ⌝ }
+pub extern "C" fn musselpath_full_run(text: &[u8], ticks: u64, out: &mut [u64]) -> u64
+    ensures { λ r. ⌜ (r ≡ runAnswered (now (text .entry)) ticks (now (out .entry))) × (now (out .exit) ≡ runLeft (now (text .entry)) ticks (now (out .entry))) ⌝ }
 {
     let reading = text::read(text);
     let outcome = reading.outcome;
     match outcome {
         Outcome::Accepted => run(reading.table, ticks, out),
-        Outcome::Refused(why) => number(why),
+        Outcome::Refused(why) => pack(why),
     }
 }

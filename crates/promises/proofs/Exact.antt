@@ -20,7 +20,7 @@ use Rattle.verdicts.specs.declared.Verdict.the-variants.{Fits, Misses}
 use Rattle.figures.specs.Figures.{arrivals, demand, right, own, verdict}
 use Rattle.figures.proofs.Arrivals.{arrivals-zero, arrivals-next}
 use Rattle.figures.proofs.Rows.{sane}
-use Rattle.figures.proofs.Recurrence.{Least, NoneUpTo}
+use Rattle.figures.specs.Fixed.{Smallest, NoneUpTo}
 use Rattle.figures.proofs.Verdicts.{one-fits, one-whole, one-misses}
 use Rattle.promises.proofs.Supply.{bit, sumFrom, sum-add, sum-none, sum-last, idle, Server, balance}
 use Rattle.promises.proofs.Finish.{Positive}
@@ -157,7 +157,7 @@ module _ (t : Table) (good : rightTable t ≡ true) where
         (if-true (some (parts (rowAt t k .times))) none (eq-eqb (0 % rowAt t k .period) 0 (zero-mod (rowAt t k .period))) ∙ ap some (row .alone)) n h
         (λ y p e. later y p (omega (arith, full-asked k (omega arith) y, ap total (row .alone)))) done
 
-    smallest : {b : Bound} {R : Length} → verdict (rowAt t) k ≡ Fits b R → Least (right (rowAt t) k (own (rowAt t k))) (R .0)
+    smallest : {b : Bound} {R : Length} → verdict (rowAt t) k ≡ Fits b R → Smallest (right (rowAt t) k (own (rowAt t k))) (R .0)
     smallest {b} {R} e = one-fits (rowAt t) k (rules t good k at) one (R .0) .0 (rw (one-whole (rowAt t) k (rules t good k at) one b R e) at e) .0
 
     -- where a row of one C fits with R, its first job in the full run is not complete before instant R

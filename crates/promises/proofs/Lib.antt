@@ -7,4 +7,7 @@ pub mod Proper
 pub mod Sound
 pub mod Fits
 pub mod Exact
-pub mod Demands
+pub mod Told
+pub mod Demand1
+pub mod Demand2
+pub mod Demand3

@@ -1,129 +1,205 @@
 -- THE THREE DEMANDS, about the meanings of the public functions, for every input. proofs/Demands shows each of them.
--- text::read is `readText`, text::write is `written` and `writtenInto`, figures::row_figures is `rowAnswer`, figures::table_figures is
+-- text::read is `reading`, text::write is `written` and `writtenInto`, figures::row_figures is `rowAnswer`, figures::table_figures is
 -- `tableFigures`, report::write is `reported` and `reportedInto`, report::answer is `answerText`, machine::full_run is `fullRun`: the contracts say so.
 use mathlib.Core.Path.{_≡_}
-use mathlib.Core.Bool.{true, false}
-use mathlib.Core.List.{List}
+use mathlib.Core.Bool.{Bool, true, false}
+use mathlib.Core.List.{List, [], _∷_}
 use mathlib.Core.Logic.{_↔_}
-use mathlib.Core.Option.{none, some}
-use Prim.Native.Nat.{ℕ, _+_, _≤_, _<_}
-use lib.ListN.{length, getD}
-use Rattle.ticks.specs.declared.Length.{Length}
-use Rattle.ticks.specs.declared.Instant.{Instant}
+use mathlib.Core.Option.{none}
+use Prim.Native.Nat.{ℕ, _+_, _-_, _≤_, _<_}
+use lib.Dec.{leb}
+use lib.ListN.{length, take, getD}
+use Rattle.words.specs.Choice.{if_then_else_, _and_}
 use Rattle.words.specs.Buffer.{over, placed}
-use Rattle.refusals.specs.declared.Refusal.{Refusal}
-use Rattle.refusals.specs.declared.Refusal.the-variants.{BadTable, NoRoom}
-use Rattle.table.specs.Limits.{longestText, mostTicks}
-use Rattle.table.specs.Paper.{Table, rowAt, waits}
-use Rattle.table.specs.Value.{tableOf, tableValue, emptyTable, wellFormed}
-use Rattle.ticks.specs.Ticks.{long}
+use Rattle.words.specs.Spelled.{spelled}
+use Rattle.ticks.specs.Ticks.{instant, long}
+use Rattle.ticks.specs.declared.Instant.{Instant}
+use Rattle.ticks.specs.declared.Length.{Length}
+use Rattle.decimal.specs.Decimal.{digits}
+use Rattle.fields.specs.Fields.{lineFeed, line}
+use Rattle.refusals.specs.declared.Refusal.the-variants.{BadTable, NoSuchRow}
+use Rattle.table.specs.Limits.{mostRows, longestText, mostTicks}
+use Rattle.table.specs.Paper.{Row, rowAt, Part, part, parts, waits}
+use Rattle.table.specs.Value.{tableOf, emptyTable, wellFormed}
 use Rattle.table.specs.declared.Table.{Table as TableValue}
-use Rattle.text.specs.declared.Written.the-variants.{Refused as NotWritten}
-use Rattle.text.specs.Read.{accepted, refused, readText, readingOf}
-use Rattle.text.specs.Write.{tableText, written, writtenInto}
+use Rattle.text.specs.declared.Outcome.the-variants.{Accepted}
+use Rattle.text.specs.declared.Reading.{Reading}
+use Rattle.text.specs.declared.Written.the-variants.{Bytes}
+use Rattle.text.specs.Read.{readText, readingOf, numberOfOutcome, lineOfOutcome, fieldOfOutcome}
+use Rattle.text.specs.Write.{tableText, lengthIn, written, writtenInto, numberOfWritten}
+use Rattle.verdicts.specs.Verdicts.{fits}
 use Rattle.verdicts.specs.declared.Bound.{Bound}
 use Rattle.verdicts.specs.declared.Bound.the-variants.{Whole, Split}
-use Rattle.figures.specs.declared.RowFigures.{RowFigures}
+use Rattle.verdicts.specs.declared.Figure.the-variants.{Is, No}
 use Rattle.verdicts.specs.declared.Verdict.the-variants.{Fits, Misses, Open}
+use Rattle.verdicts.specs.declared.TableVerdict.the-variants.{Fits as TableFits, Misses as TableMisses, Open as TableOpen}
+use Rattle.figures.specs.declared.RowFigures.{RowFigures}
 use Rattle.figures.specs.declared.Answer.the-variants.{Row as RowIs, Refused as NoFigures}
-use Rattle.figures.specs.Figures.{right, own, whole, split}
-use Rattle.figures.specs.Answers.{rowAnswer, refusedFigures, tableFigures}
-use Rattle.refused.specs.Refused.{refusedLine}
+use Rattle.figures.specs.Fixed.{Smallest, NoneUpTo}
+use Rattle.figures.specs.Figures.{right, rounds, own, splitRounds}
+use Rattle.figures.specs.Answers.{rowAnswer, slotOf, refusedFigures, tableFigures, numberOfAnswer, numberOfVerdict}
 use Rattle.report.specs.Report.{reportText, answerText, reported, reportedInto, longestReport}
+use Rattle.kernel.specs.Rules.{Input, LegalRun, after, full, Complete}
 use Rattle.machine.specs.declared.First.{First}
 use Rattle.machine.specs.declared.First.the-variants.{At, Not}
-use Rattle.kernel.specs.Rules.{Input, LegalRun, after, full, Complete}
-use Rattle.machine.specs.Run.{slotOf, refusedRun, fullRun}
+use Rattle.machine.specs.Run.{noSlot, fullRun, numberOfOutcome as numberOfRun}
 
--- ---- 1: a bad text or table is refused, gives an empty table or no figures, and no lent byte changes
+-- ---- the words of this page; rows are counted from 1
 
--- a refused text gives an empty table
-abbrev pub RefusedText : Type 0
-RefusedText = (s : List ℕ) (why : Refusal) → readText s ≡ refused why → readingOf (readText s) .table ≡ emptyTable
+-- what a text reads as
+abbrev pub reading : List ℕ → Reading
+reading s = readingOf (readText s)
 
--- a bad table value is refused by all, whatever else is asked, and the buffer stays as it was
-abbrev pub RefusedTable : Type 0
-RefusedTable = (v : TableValue) → wellFormed v ≡ false
-    → ((d : List ℕ) → (written v d ≡ NotWritten BadTable) × (writtenInto v d ≡ d) × (reported v d ≡ NotWritten BadTable) × (reportedInto v d ≡ d))
-    × ((n : ℕ) → (rowAnswer v n ≡ NoFigures BadTable) × (fullRun v n ≡ refusedRun BadTable))
-    × (tableFigures v ≡ refusedFigures BadTable)
+-- the number of that: 0 where the text is accepted
+abbrev pub readNumber : List ℕ → ℕ
+readNumber s = numberOfOutcome (reading s .outcome)
 
--- a buffer that is too short stays as it was
-abbrev pub ShortBuffer : Type 0
-ShortBuffer = (v : TableValue) (d : List ℕ)
-    → (written v d ≡ NotWritten NoRoom → writtenInto v d ≡ d) × (reported v d ≡ NotWritten NoRoom → reportedInto v d ≡ d)
+-- row n of a table value, on paper
+abbrev pub row : TableValue → ℕ → Row
+row v n = rowAt (tableOf v) (n - 1)
+
+-- f(t) of row n, with c in place of its C: c, and what the rows above ask for in t ticks
+abbrev pub f : TableValue → ℕ → ℕ → ℕ → ℕ
+f v n c = right (rowAt (tableOf v)) (n - 1) c
+
+-- the library gives the figures a for row n
+abbrev pub Told : TableValue → ℕ → RowFigures → Type 0
+Told v n a = rowAnswer v n ≡ RowIs a
+
+-- the completion of row n's first job that the full run of m ticks gives
+abbrev pub completed : TableValue → ℕ → ℕ → First
+completed v m n = getD (fullRun v m .rows) (n - 1) noSlot .first
+
+-- ---- 1: a bad text or table is refused by its number, which is 0 for all others; it gives an empty table or no figures, and no lent byte changes
+
+-- a text: accepted, at line 0, field 0, or refused by 1 to 11, from 4 on at a line, with an empty table. 1, 2 and 3 are given exactly when they are due
+abbrev pub Texts : Type 0
+Texts = (s : List ℕ)
+    → (readNumber s ≡ 0 → (wellFormed (reading s .table) ≡ true) × (lineOfOutcome (reading s .outcome) ≡ 0) × (fieldOfOutcome (reading s .outcome) ≡ 0))
+    × ((readNumber s ≡ 0 → ⊥) → (reading s .table ≡ emptyTable) × (readNumber s ≤ 11) × (4 ≤ readNumber s → 1 ≤ lineOfOutcome (reading s .outcome)))
+    × ((readNumber s ≡ 1) ↔ (length s ≡ 0))
+    × ((readNumber s ≡ 2) ↔ (longestText < length s))
+    × ((readNumber s ≡ 3) ↔ ((1 ≤ length s) × (length s ≤ longestText) × (getD s (length s - 1) 0 ≡ lineFeed → ⊥)))
+
+-- the number that is due: 20 where the table is bad, then 21 where the row isn't there, 23 where the ticks are too many, 22 where there is no room
+abbrev pub due : Bool → Bool → Bool → Bool → ℕ
+due table there few room = if table then (if there then (if few then (if room then 0 else 22) else 23) else 21) else 20
+
+-- each function that takes a table gives the number that is due, and so it gives an answer wherever none is
+abbrev pub Numbers : Type 0
+Numbers = (v : TableValue)
+    → ((n : ℕ) → numberOfAnswer (rowAnswer v n) ≡ due (wellFormed v) (leb 1 n and leb n (length (tableOf v))) true true)
+    × (numberOfVerdict (tableFigures v .verdict) ≡ due (wellFormed v) true true true)
+    × ((m : ℕ) → numberOfRun (fullRun v m .outcome) ≡ due (wellFormed v) true (leb m mostTicks) true)
+    × ((d : List ℕ) → numberOfWritten (written v d) ≡ due (wellFormed v) true true (leb (length (tableText (tableOf v))) (length d)))
+    × ((d : List ℕ) → numberOfWritten (reported v d) ≡ due (wellFormed v) true true (leb (length (reportText (tableOf v))) (length d)))
+
+-- behind a number there is no figure and no instant, and the lent bytes are as they were
+abbrev pub Nothing : Type 0
+Nothing = (v : TableValue)
+    → ((numberOfVerdict (tableFigures v .verdict) ≡ 0 → ⊥) → tableFigures v ≡ refusedFigures BadTable)
+    × ((m n : ℕ) → (numberOfRun (fullRun v m .outcome) ≡ 0 → ⊥) → completed v m n ≡ Not)
+    × ((d : List ℕ) → (numberOfWritten (written v d) ≡ 0 → ⊥) → writtenInto v d ≡ d)
+    × ((d : List ℕ) → (numberOfWritten (reported v d) ≡ 0 → ⊥) → reportedInto v d ≡ d)
 
 -- ---- 2: texts read, write back and are answered; figures are the published recurrence's
 
--- an accepted text writes back byte for byte
+-- an accepted text is written back byte for byte
 abbrev pub TextBack : Type 0
-TextBack = (s : List ℕ) (t : Table) → readText s ≡ accepted t → (wellFormed (tableValue t) ≡ true) × ((d : List ℕ) → writtenInto (tableValue t) d ≡ placed s d)
+TextBack = (s d : List ℕ) → readNumber s ≡ 0 → (written (reading s .table) d ≡ lengthIn s d) × (writtenInto (reading s .table) d ≡ placed s d)
 
 -- a table has exactly one text
 abbrev pub OneText : Type 0
-OneText = (s r : List ℕ) (t : Table) → readText s ≡ accepted t → readText r ≡ accepted t → s ≡ r
+OneText = (s r : List ℕ) → readNumber s ≡ 0 → readNumber r ≡ 0 → reading s .table ≡ reading r .table → s ≡ r
 
--- a well-formed table written and read is the same table, and its text is never too long
+-- what was written of a table reads as the same table; a buffer for the longest text has room for each
 abbrev pub TableBack : Type 0
-TableBack = (v : TableValue) → wellFormed v ≡ true
-    → (readingOf (readText (tableText (tableOf v))) .table ≡ v) × (length (tableText (tableOf v)) ≤ longestText)
+TableBack = (v : TableValue) (d : List ℕ)
+    → ((m : ℕ) → written v d ≡ Bytes m → reading (take m (writtenInto v d)) ≡ record { outcome = Accepted; table = v })
+    × (wellFormed v ≡ true → longestText ≤ length d → numberOfWritten (written v d) ≡ 0)
 
--- the answer to a text is the report of its table or the line of its refusal, and a buffer for the longest has room for it
+-- the answer to a text is the report of its table, or the line of its refusal; a buffer for the longest report has room for each
 abbrev pub Answered : Type 0
 Answered = (s : List ℕ)
-    → ((t : Table) → readText s ≡ accepted t → answerText s ≡ reportText t)
-    × ((why : Refusal) → readText s ≡ refused why → answerText s ≡ refusedLine why)
+    → (readNumber s ≡ 0 → answerText s ≡ reportText (tableOf (reading s .table)))
+    × ((readNumber s ≡ 0 → ⊥)
+    → answerText s ≡ line (spelled "refused") (digits (readNumber s) ∷ digits (lineOfOutcome (reading s .outcome)) ∷ digits (fieldOfOutcome (reading s .outcome)) ∷ []))
     × ((d : List ℕ) → longestReport ≤ length d → placed (answerText s) d ≡ over (answerText s) d)
 
--- the smallest positive fixed point of f
-pub record Smallest (f : ℕ → ℕ) (R : ℕ) : Type 0 where
-  pub positive : 1 ≤ R
-  pub fixed : f R ≡ R
-  pub least : (y : ℕ) → 1 ≤ y → f y ≡ y → R ≤ y
+-- each row of a well-formed table has figures, and the figures of the table are those of its rows
+abbrev pub Given : Type 0
+Given = (v : TableValue) → wellFormed v ≡ true
+    → ((n : ℕ) → 1 ≤ n → n ≤ length (tableOf v) → (a : RowFigures) × Told v n a)
+    × ((n : ℕ) → 1 ≤ n → n ≤ mostRows → getD (tableFigures v .rows) (n - 1) (slotOf (NoFigures NoSuchRow)) .answer ≡ rowAnswer v n)
 
--- the row with number k + 1 of a well-formed table, and its figures
-pub record Asked (v : TableValue) (k : ℕ) (a : RowFigures) : Type 0 where
-  pub good : wellFormed v ≡ true
-  pub there : k < length (tableOf v)
-  pub answered : rowAnswer v (k + 1) ≡ RowIs a
+-- whole is the smallest positive t with f(t) = t, for all C and S of the row, where it is at most D
+abbrev pub WholeBound : Type 0
+WholeBound = (v : TableValue) (n : ℕ) (a : RowFigures) → Told v n a
+    → (R : ℕ) → (a .whole ≡ Is (long R)) ↔ (Smallest (f v n (own (row v n))) R × (R ≤ row v n .deadline))
 
--- a row of one stretch fits with R exactly where R is the smallest positive fixed point and at most D; it misses exactly where none is
+-- B adds up, over stretches, each suspension and the smallest positive t with f(t) = t for each C by itself, none of them above D
+pub data Added (v : TableValue) (n : ℕ) : List Part → ℕ → Type 0 where
+  no-more : Added v n [] 0
+  one-more : {S C : ℕ} {l : List Part} {B : ℕ} (R : ℕ) → Smallest (f v n C) R → R ≤ row v n .deadline → Added v n l B → Added v n (part S C ∷ l) (S + R + B)
+
+-- split is that sum over all stretches, where it is at most D; a row of one C has none
+abbrev pub SplitBound : Type 0
+SplitBound = (v : TableValue) (n : ℕ) (a : RowFigures) → Told v n a
+    → (waits (row v n) ≡ true → (B : ℕ) → (a .split ≡ Is (long B)) ↔ (Added v n (parts (row v n .times)) B × (B ≤ row v n .deadline)))
+    × (waits (row v n) ≡ false → a .split ≡ No)
+
+-- a row of one stretch fits with R exactly where R is the smallest positive t with f(t) = t and at most D; it misses exactly where none is
 abbrev pub OneStretch : Type 0
-OneStretch = (v : TableValue) (k : ℕ) (a : RowFigures) → Asked v k a → waits (rowAt (tableOf v) k) ≡ false
-    → ((R : ℕ) → (a .verdict ≡ Fits Whole (long R)) ↔ (Smallest (right (rowAt (tableOf v)) k (own (rowAt (tableOf v) k))) R × (R ≤ rowAt (tableOf v) k .deadline)))
-    × ((a .verdict ≡ Misses) ↔ ((y : ℕ) → 1 ≤ y → right (rowAt (tableOf v)) k (own (rowAt (tableOf v) k)) y ≡ y → rowAt (tableOf v) k .deadline < y))
+OneStretch = (v : TableValue) (n : ℕ) (a : RowFigures) → Told v n a → waits (row v n) ≡ false
+    → ((R : ℕ) → (a .verdict ≡ Fits Whole (long R)) ↔ (Smallest (f v n (own (row v n))) R × (R ≤ row v n .deadline)))
+    × ((a .verdict ≡ Misses) ↔ NoneUpTo (row v n .deadline) (f v n (own (row v n))))
+    × ((R : Length) → a .verdict ≡ Fits Split R → ⊥)
+    × (a .verdict ≡ Open → ⊥)
 
 -- a waiting row fits with the lesser of its two bounds, whole named when they are equal; it is open exactly where there is neither; it never misses
 abbrev pub WaitingRow : Type 0
-WaitingRow = (v : TableValue) (k : ℕ) (a : RowFigures) → Asked v k a → waits (rowAt (tableOf v) k) ≡ true
-    → ((R : ℕ) → (a .verdict ≡ Fits Whole (long R)) ↔ ((whole (rowAt (tableOf v)) k ≡ some R) × ((s : ℕ) → split (rowAt (tableOf v)) k ≡ some s → R ≤ s)))
-    × ((R : ℕ) → (a .verdict ≡ Fits Split (long R)) ↔ ((split (rowAt (tableOf v)) k ≡ some R) × ((w : ℕ) → whole (rowAt (tableOf v)) k ≡ some w → R < w)))
-    × ((a .verdict ≡ Open) ↔ ((whole (rowAt (tableOf v)) k ≡ none) × (split (rowAt (tableOf v)) k ≡ none)))
+WaitingRow = (v : TableValue) (n : ℕ) (a : RowFigures) → Told v n a → waits (row v n) ≡ true
+    → ((R : ℕ) → (a .verdict ≡ Fits Whole (long R)) ↔ ((a .whole ≡ Is (long R)) × ((s : ℕ) → a .split ≡ Is (long s) → R ≤ s)))
+    × ((R : ℕ) → (a .verdict ≡ Fits Split (long R)) ↔ ((a .split ≡ Is (long R)) × ((w : ℕ) → a .whole ≡ Is (long w) → R < w)))
+    × ((a .verdict ≡ Open) ↔ ((a .whole ≡ No) × (a .split ≡ No)))
     × (a .verdict ≡ Misses → ⊥)
+
+-- rounds: how often f was worked out, in all recurrences; for one C at most D - C + 1 times
+abbrev pub Rounds : Type 0
+Rounds = (v : TableValue) (n : ℕ) (a : RowFigures) → Told v n a
+    → (waits (row v n) ≡ false
+    → (a .rounds ≡ rounds (f v n (own (row v n))) (row v n .deadline) (own (row v n))) × (a .rounds ≤ row v n .deadline - own (row v n) + 1))
+    × (waits (row v n) ≡ true
+    → a .rounds ≡ rounds (f v n (own (row v n))) (row v n .deadline) (own (row v n)) + splitRounds (rowAt (tableOf v)) (n - 1) (parts (row v n .times)))
+
+-- the table fits if every row does, misses if some row misses, and is open otherwise
+abbrev pub TableVerdict : Type 0
+TableVerdict = (v : TableValue) → wellFormed v ≡ true
+    → ((tableFigures v .verdict ≡ TableFits) ↔ ((n : ℕ) (a : RowFigures) → Told v n a → fits (a .verdict) ≡ true))
+    × ((tableFigures v .verdict ≡ TableMisses) ↔ ((n : ℕ) × (a : RowFigures) × Told v n a × (a .verdict ≡ Misses)))
+    × ((tableFigures v .verdict ≡ TableOpen)
+    ↔ ((((n : ℕ) (a : RowFigures) → Told v n a → fits (a .verdict) ≡ true) → ⊥) × ((n : ℕ) (a : RowFigures) → Told v n a → a .verdict ≡ Misses → ⊥)))
 
 -- ---- 3: what "fits" and "misses" mean for the box
 
 -- a row that fits with R: R is at most its deadline, and in every run that the kernel's rules allow, of any length,
 -- each job of the row released at least R ticks before the run's end is complete within R
 abbrev pub InTime : Type 0
-InTime = (v : TableValue) (k : ℕ) (a : RowFigures) → Asked v k a → (b : Bound) (R : Length) → a .verdict ≡ Fits b R
-    → (R .0 ≤ rowAt (tableOf v) k .deadline)
-    × ((run : ℕ → Input) → LegalRun (tableOf v) run → (s n : ℕ) → s + R .0 ≤ n → Complete s (after run n k))
-
--- the completion that the full run of n ticks gives for row k + 1
-abbrev pub completed : TableValue → ℕ → ℕ → First
-completed v n k = getD (fullRun v n .rows) k (slotOf none) .first
+InTime = (v : TableValue) (n : ℕ) (a : RowFigures) → Told v n a → (b : Bound) (R : Length) → a .verdict ≡ Fits b R
+    → (1 ≤ R .0) × (R .0 ≤ row v n .deadline)
+    × ((run : ℕ → Input) → LegalRun (tableOf v) run → (s end : ℕ) → s + R .0 ≤ end → Complete s (after run end (n - 1)))
 
 -- the full run is one of those runs
 abbrev pub FullRunLegal : Type 0
 FullRunLegal = (v : TableValue) → wellFormed v ≡ true → LegalRun (tableOf v) (full (rowAt (tableOf v)))
 
--- a row of one stretch that fits with R: the full run ends its first job at exactly R
+-- a row of one stretch that fits with R: the full run ends its first job at exactly R, which is within the ticks that a full run may have
 abbrev pub Exact : Type 0
-Exact = (v : TableValue) (k : ℕ) (a : RowFigures) → Asked v k a → waits (rowAt (tableOf v) k) ≡ false → (b : Bound) (R : Length) → a .verdict ≡ Fits b R
-    → (n : ℕ) → n ≤ mostTicks → (R .0 ≤ n → completed v n k ≡ At (record { 0 = R .0 })) × (n < R .0 → completed v n k ≡ Not)
+Exact = (v : TableValue) (n : ℕ) (a : RowFigures) → Told v n a → waits (row v n) ≡ false → (b : Bound) (R : Length) → a .verdict ≡ Fits b R
+    → (R .0 ≤ mostTicks)
+    × ((m : ℕ) → m ≤ mostTicks → (R .0 ≤ m → completed v m n ≡ At (instant (R .0))) × (m < R .0 → completed v m n ≡ Not))
 
 -- a row of one stretch that misses: the full run does not end its first job by its deadline
 abbrev pub Missed : Type 0
-Missed = (v : TableValue) (k : ℕ) (a : RowFigures) → Asked v k a → waits (rowAt (tableOf v) k) ≡ false → a .verdict ≡ Misses
-    → (n : ℕ) → n ≤ mostTicks → (c : Instant) → completed v n k ≡ At c → rowAt (tableOf v) k .deadline < c .0
+Missed = (v : TableValue) (n : ℕ) (a : RowFigures) → Told v n a → waits (row v n) ≡ false → a .verdict ≡ Misses
+    → (m : ℕ) → m ≤ mostTicks → (c : Instant) → completed v m n ≡ At c → row v n .deadline < c .0

@@ -8,3 +8,4 @@ pub mod Values
 pub mod Reader
 pub mod Writer
 pub mod Places
+pub mod Numbers

@@ -14,6 +14,8 @@ use Rattle.table.specs.Paper.{Row, Table, rightName, rightCount, waits, named}
 use Rattle.table.specs.Value.{tableValue, emptyTable}
 use Rattle.refusals.specs.declared.Refusal.{Refusal}
 use Rattle.refusals.specs.declared.Refusal.the-variants.{NoText, LongText, NoLineFeed, ManyLines, AfterWaiting, FieldCount, BadName, BadNumber, LateDeadline, LongTimes, NameTaken}
+use Rattle.refusals.specs.Refusals.{numberOf, lineOf, fieldOf}
+use Rattle.text.specs.declared.Outcome.{Outcome}
 use Rattle.text.specs.declared.Outcome.the-variants.{Accepted, Refused}
 use Rattle.text.specs.declared.Reading.{Reading}
 use Rattle.fields.specs.Fields.{lineFeed}
@@ -104,3 +106,18 @@ readText s =
 abbrev pub readingOf : Answer → Reading
 readingOf (accepted t) = record { outcome = Accepted; table = tableValue t }
 readingOf (refused x) = record { outcome = Refused x; table = emptyTable }
+
+-- the number of a reading's outcome: 0 where the text was accepted
+abbrev pub numberOfOutcome : Outcome → ℕ
+numberOfOutcome Accepted = 0
+numberOfOutcome (Refused x) = numberOf x
+
+-- its line, 0 where the text was accepted
+abbrev pub lineOfOutcome : Outcome → ℕ
+lineOfOutcome Accepted = 0
+lineOfOutcome (Refused x) = lineOf x
+
+-- its field, 0 where the text was accepted
+abbrev pub fieldOfOutcome : Outcome → ℕ
+fieldOfOutcome Accepted = 0
+fieldOfOutcome (Refused x) = fieldOf x

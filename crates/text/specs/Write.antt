@@ -10,6 +10,7 @@ use Rattle.table.specs.Paper.{Row, Table}
 use Rattle.table.specs.Value.{tableOf, wellFormed}
 use Rattle.table.specs.declared.Table.{Table as TableValue}
 use Rattle.refusals.specs.declared.Refusal.the-variants.{BadTable, NoRoom}
+use Rattle.refusals.specs.Refusals.{numberOf}
 use Rattle.text.specs.declared.Written.{Written}
 use Rattle.text.specs.declared.Written.the-variants.{Bytes, Refused}
 use Rattle.fields.specs.Fields.{line, joined}
@@ -25,6 +26,11 @@ tableText t = joined (map lineText t)
 -- the length of what is to be put into a buffer; 22 where it is too short
 abbrev pub lengthIn : List ℕ → List ℕ → Written
 lengthIn bs d = if leb (length bs) (length d) then Bytes (length bs) else Refused NoRoom
+
+-- the number of what was written: 0 where it was
+abbrev pub numberOfWritten : Written → ℕ
+numberOfWritten (Bytes n) = 0
+numberOfWritten (Refused x) = numberOf x
 
 -- 20, then 22, else the length
 unfoldable pub written : TableValue → List ℕ → Written

@@ -58,11 +58,13 @@ misses Open = false
 abbrev pub overall : List Verdict → TableVerdict
 overall vs = if all fits vs then TableFits else if any misses vs then TableMisses else TableOpen
 
--- the table's verdict with one row more
+-- the table's verdict with one row more; a refused table stays refused
 abbrev pub joinedOf : TableVerdict → Verdict → TableVerdict
-joinedOf v (Fits b r) = v
-joinedOf v Misses = TableMisses
+joinedOf TableFits (Fits b r) = TableFits
+joinedOf TableFits Misses = TableMisses
 joinedOf TableFits Open = TableOpen
-joinedOf TableMisses Open = TableMisses
+joinedOf TableOpen (Fits b r) = TableOpen
+joinedOf TableOpen Misses = TableMisses
 joinedOf TableOpen Open = TableOpen
-joinedOf (TableRefused x) Open = TableOpen
+joinedOf TableMisses v = TableMisses
+joinedOf (TableRefused x) v = TableRefused x

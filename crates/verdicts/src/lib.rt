@@ -83,14 +83,18 @@ pub fn of_waiting(whole: Figure, split: Figure) -> Verdict
 pub fn joined(table: TableVerdict, row: Verdict) -> TableVerdict
     ensures { λ r. ⌜ r ≡ joinedOf table row ⌝ }
 {
-    match row {
-        Verdict::Fits(_, _) => table,
-        Verdict::Misses => TableVerdict::Misses,
-        Verdict::Open => match table {
-            TableVerdict::Fits => TableVerdict::Open,
-            TableVerdict::Misses => TableVerdict::Misses,
-            TableVerdict::Open => TableVerdict::Open,
-            TableVerdict::Refused(_) => TableVerdict::Open,
+    match table {
+        TableVerdict::Fits => match row {
+            Verdict::Fits(_, _) => TableVerdict::Fits,
+            Verdict::Misses => TableVerdict::Misses,
+            Verdict::Open => TableVerdict::Open,
         },
+        TableVerdict::Open => match row {
+            Verdict::Fits(_, _) => TableVerdict::Open,
+            Verdict::Misses => TableVerdict::Misses,
+            Verdict::Open => TableVerdict::Open,
+        },
+        TableVerdict::Misses => TableVerdict::Misses,
+        TableVerdict::Refused(_) => table,
     }
 }

@@ -1,5 +1,6 @@
 -- Lists of f 0, f 1, f 2, .., and arrays that are filled from the front.
 use mathlib.Core.Path.{_≡_, refl, sym, _∙_, ap}
+use mathlib.Core.Bool.{Bool, true, false, false≢true}
 use mathlib.Core.List.{List, [], _∷_, _++_, map, append-nil}
 use Prim.Native.Nat.{ℕ, zero, suc, _+_, _-_, _≤_, _<_}
 use native.Mathlib.Omega.{arith}
@@ -7,7 +8,10 @@ use native.Mathlib.Numerals.{add-one}
 use native.Mathlib.Decide.{decLe}
 use lib.ListN.{length, take, getD, set, replicate, length-map, length-append}
 use lib.Seq.{take-all, take-length, take-suc, length-take-le, set-at, append-snoc, getD-append-seam}
-use Rattle.words.specs.Lists.{below}
+use Rattle.words.specs.Choice.{_and_, _or_}
+use Rattle.words.specs.Lists.{all, any, below}
+use Rattle.words.proofs.Choice.{and-parts, and-both, or-true}
+use Rattle.words.proofs.Lists.{all-snoc, any-snoc}
 
 pub map-snoc : {A B : Type 0} (f : A → B) (xs : List A) (x : A) → map f (xs ++ (x ∷ [])) ≡ map f xs ++ (f x ∷ [])
 map-snoc f [] x = refl
@@ -85,3 +89,54 @@ module _ {A B : Type 0} (f : A → B) (z : B) where
   filled-all xs m k ys len h e =
       let a : m - k ≡ 0 = omega arith in
       e ∙ ap (λ n. map f (take k xs) ++ replicate n z) a ∙ append-nil (map f (take k xs)) ∙ ap (map f) (take-all k xs (omega (arith, len)))
+
+-- what stands behind the filled places
+pub filled-behind : {A : Type 0} (xs : List A) (m k : ℕ) (z : A) → length xs ≤ k → getD (xs ++ replicate m z) k z ≡ z
+filled-behind [] zero k z h = refl
+filled-behind [] (suc m) zero z h = refl
+filled-behind [] (suc m) (suc k) z h = filled-behind [] m k z (omega arith)
+filled-behind (x ∷ xs) m zero z h = absurd (omega arith)
+filled-behind (x ∷ xs) m (suc k) z h = filled-behind xs m k z (omega arith)
+
+-- a test of f 0, f 1, .., f (n - 1): all of them pass it, or some one
+module _ {A : Type 0} (test : A → Bool) (f : ℕ → A) where
+  pub all-below-each : (n : ℕ) → all test (map f (below n)) ≡ true → (k : ℕ) → k < n → test (f k) ≡ true
+  all-below-each zero e k h = absurd (omega arith)
+  all-below-each (suc n) e k h =
+      let p = and-parts (sym (all-snoc test (map f (below n)) (f n)) ∙ sym (ap (all test) (map-below f n)) ∙ e) in
+      go (decLe n k) p (all-below-each n (p .0) k)
+    where
+      go : Dec (n ≤ k) → (all test (map f (below n)) ≡ true) × (test (f n) ≡ true) → (k < n → test (f k) ≡ true) → test (f k) ≡ true
+      go (yes l) p ih = let y : k ≡ n = omega arith in ap (λ i. test (f i)) y ∙ p .1
+      go (no l) p ih = ih (omega arith)
+
+  pub each-all-below : (n : ℕ) → ((k : ℕ) → k < n → test (f k) ≡ true) → all test (map f (below n)) ≡ true
+  unfolding below all
+  each-all-below zero h = refl
+  each-all-below (suc n) h =
+      ap (all test) (map-below f n) ∙ all-snoc test (map f (below n)) (f n) ∙ and-both (each-all-below n (λ k l. h k (omega arith))) (h n (omega arith))
+
+  pub any-below-some : (n : ℕ) → any test (map f (below n)) ≡ true → (k : ℕ) × (k < n) × (test (f k) ≡ true)
+  unfolding below any _or_
+  any-below-some zero e = absurd (false≢true e)
+  any-below-some (suc n) e =
+      go (any test (map f (below n))) refl (test (f n)) refl (sym (any-snoc test (map f (below n)) (f n)) ∙ sym (ap (any test) (map-below f n)) ∙ e) (any-below-some n)
+    where
+      go : (a : Bool) → any test (map f (below n)) ≡ a → (b : Bool) → test (f n) ≡ b → (any test (map f (below n)) or test (f n)) ≡ true
+          → (any test (map f (below n)) ≡ true → (k : ℕ) × (k < n) × (test (f k) ≡ true)) → (k : ℕ) × (k < suc n) × (test (f k) ≡ true)
+      go true p b q h ih = let r = ih p in (r .0, omega (arith, r .1), r .2)
+      go false p true q h ih = (n, omega arith, q)
+      go false p false q h ih = absurd (false≢true (sym (rw (p, q)) ∙ h))
+
+  pub some-any-below : (n k : ℕ) → k < n → test (f k) ≡ true → any test (map f (below n)) ≡ true
+  unfolding _or_
+  some-any-below zero k h e = absurd (omega arith)
+  some-any-below (suc n) k h e = ap (any test) (map-below f n) ∙ any-snoc test (map f (below n)) (f n) ∙ go (decLe n k) (some-any-below n k)
+    where
+      or-last : (a b : Bool) → b ≡ true → (a or b) ≡ true
+      or-last true b q = refl
+      or-last false b q = q
+
+      go : Dec (n ≤ k) → (k < n → test (f k) ≡ true → any test (map f (below n)) ≡ true) → (any test (map f (below n)) or test (f n)) ≡ true
+      go (yes l) ih = let y : n ≡ k = omega arith in or-last (any test (map f (below n))) (test (f n)) (ap (λ i. test (f i)) y ∙ e)
+      go (no l) ih = or-true (test (f n)) (ih (omega arith) e)

@@ -51,6 +51,12 @@ module _ {A : Type 0} (test : A → Bool) where
   all-each (x ∷ xs) e zero d h = and-parts e .0
   all-each (x ∷ xs) e (suc i) d h = all-each xs (and-parts e .1) i d (omega arith)
 
+-- what stands at an index within the list is the same whatever is said to stand behind its end
+pub getD-any : {A : Type 0} (xs : List A) (i : ℕ) (d e : A) → i < length xs → getD xs i d ≡ getD xs i e
+getD-any [] i d e h = absurd (omega arith)
+getD-any (x ∷ xs) zero d e h = refl
+getD-any (x ∷ xs) (suc i) d e h = getD-any xs i d e (omega arith)
+
 -- `same` is equality
 pub same-eq : (xs ys : List ℕ) → same xs ys ≡ true → xs ≡ ys
 unfolding same

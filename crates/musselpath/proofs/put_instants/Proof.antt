@@ -10,7 +10,7 @@ use Rattle.words.specs.Buffer.{over}
 use Rattle.words.proofs.Put.{Put, put-none, put-byte}
 use Rattle.table.proofs.Used.{len-is, len-most}
 use Rattle.musselpath.specs.Parts.{numbersOf}
-use Rattle.musselpath.proofs.Answers.{numbers-next, numbers-are}
+use Rattle.musselpath.proofs.Answers.{numbers-next, answers-length, numbers-are}
 use Rattle.musselpath.proofs.put_instants.Statement.{statement}
 use Rattle.musselpath.proofs.put_instants.Tie as tie
 
@@ -40,7 +40,7 @@ mul-out : tie.Need-mul-out Inv-loop μ-loop
 mul-out c = omega (arith, len-most (c .before .before .before .before .before .before .before .args .table) (c .before .before .before .before .before .before .before .pre .0), c .before .before .loop-test .taken)
 
 slice-write-out : tie.Need-slice-write-out Inv-loop μ-loop
-slice-write-out c = omega (arith, len-most (c .before .before .before .before .before .before .before .args .table) (c .before .before .before .before .before .before .before .pre .0), c .before .before .before .before .before .before .before .pre .2, c .before .before .before .loop .inv .1 .kept, c .before .before .loop-test .taken)
+slice-write-out c = omega (arith, len-is (c .before .before .before .before .before .before .before .args .table) (c .before .before .before .before .before .before .before .pre .0), c .before .before .before .before .before .before .before .pre .2, c .before .before .before .loop .inv .1 .kept, c .before .before .loop-test .taken)
 
 add-i : tie.Need-add-i Inv-loop μ-loop
 add-i c = omega (arith, len-most (c .before .before .before .before .before .before .before .args .table) (c .before .before .before .before .before .before .before .pre .0), c .before .before .loop-test .taken)
@@ -50,10 +50,16 @@ loop-less c = omega (arith, c .before .before .loop-test .taken)
 
 loop-again : tie.Need-loop-again Inv-loop μ-loop
 loop-again c =
+    let s = c .before .before .before .before .before .before .before in
     let l = c .before .before .before .loop in
+    let r = c .before .before .before .before .before .full-run in
     let p = l .inv .1 in
-    let h : length (numbersOf (c .before .before .before .before .before .full-run .result .rows) (l .i)) < length (c .before .before .before .before .before .before .before .args .out .now) = omega (arith, p .end, c .before .before .loop-test .taken, len-most (c .before .before .before .before .before .before .before .args .table) (c .before .before .before .before .before .before .before .pre .0), c .before .before .before .before .before .before .before .pre .2) in
-    (omega (arith, c .before .before .loop-test .taken), rw (numbers-next (c .before .before .before .before .before .full-run .result .rows) (l .i), ← c .first-number .ensures) (put-byte (c .first-number .result) p h))
+    let t = c .before .before .loop-test .taken in
+    let n = len-is (s .args .table) (s .pre .0) in
+    let h : length (numbersOf (r .result .rows) (l .i)) < length (s .args .out .now) = omega (arith, p .end, t, n, s .pre .2) in
+    let k : l .i < length (r .result .rows)
+    = omega (arith, t, len-most (s .args .table) (s .pre .0), answers-length (s .args .table) (s .args .ticks) (s .pre .0) (s .pre .1) (r .result) (r .ensures)) in
+    (omega (arith, t), rw (numbers-next (r .result .rows) (l .i) k, ← c .first-number .ensures) (put-byte (c .first-number .result) p h))
 
 same-length : tie.Need-same-length Inv-loop μ-loop
 same-length c = c .before .loop .inv .1 .kept
