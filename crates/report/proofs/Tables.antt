@@ -8,13 +8,15 @@ use lib.ListN.{length, getD, length-append}
 use Rattle.words.specs.Lists.{below}
 use Rattle.words.specs.Buffer.{placed}
 use Rattle.words.proofs.Choice.{if-true}
+use Rattle.words.proofs.Lists.{getD-any}
 use Rattle.words.proofs.Filled.{below-same, filled-at}
 use Rattle.fields.specs.Fields.{joined}
 use Rattle.refusals.specs.declared.Refusal.{Refusal}
 use Rattle.refusals.specs.declared.Refusal.the-variants.{BadTable}
 use Rattle.table.specs.Limits.{mostRows}
 use Rattle.table.specs.Paper.{Row, Table, rowAt}
-use Rattle.table.specs.Value.{tableOf, wellFormed}
+use Rattle.table.specs.Value.{noValue, rowOf, tableOf, wellFormed}
+use Rattle.table.specs.declared.Row.{Row as RowValue}
 use Rattle.table.specs.declared.Table.{Table as TableValue}
 use Rattle.figures.specs.declared.Answer.the-variants.{Row as RowIs}
 use Rattle.table.proofs.Rules.{value-forth}
@@ -24,6 +26,10 @@ use Rattle.text.specs.declared.Reading.{Reading}
 use Rattle.text.specs.Read.{readText, readingOf}
 use Rattle.text.specs.Write.{lengthIn}
 use Rattle.text.proofs.Back.{reading-accepted, reading-refused}
+use Rattle.ticks.specs.Ticks.{long}
+use Rattle.verdicts.specs.declared.Bound.the-variants.{Whole}
+use Rattle.verdicts.specs.declared.Figure.the-variants.{Is}
+use Rattle.verdicts.specs.declared.Verdict.the-variants.{Fits}
 use Rattle.figures.specs.declared.Slot.{Slot}
 use Rattle.figures.specs.declared.TableFigures.{TableFigures}
 use Rattle.figures.specs.Answers.{figuresOf, tableVerdict, slotOf, slots, tableFigures}
@@ -32,6 +38,18 @@ use Rattle.refused.specs.Refused.{refusedLine}
 use Rattle.report.specs.Report.{rowLine, lastLine, reportText, answerTo, answerText, reported, reportedInto, longestReport}
 use Rattle.report.specs.Parts.{noSlot, answerLine, lineAt, linesText}
 use Rattle.report.proofs.Fits.{report-fits}
+
+-- what the language says to stand behind the end of an array of answers
+abbrev pub behind : Slot
+behind = slotOf (RowIs (record { verdict = Fits Whole (long 0); whole = Is (long 0); split = Is (long 0); rounds = 0 }))
+
+-- the line of row k, as the code reads it
+abbrev pub readAt : List RowValue → List Slot → ℕ → List ℕ
+readAt rows slots k = answerLine (rowOf (getD rows k noValue)) (getD slots k behind .answer)
+
+-- within the array it makes no difference what stands behind its end
+pub line-read : (rows : List RowValue) (slots : List Slot) (k : ℕ) → k < length slots → readAt rows slots k ≡ lineAt rows slots k
+line-read rows slots k h = ap (λ (s : Slot). answerLine (rowOf (getD rows k noValue)) (s .answer)) (getD-any slots k behind noSlot h)
 
 module _ (v : TableValue) (ok : wellFormed v ≡ true) where
   abbrev t : Table

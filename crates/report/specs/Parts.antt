@@ -5,16 +5,13 @@ use lib.ListN.{getD}
 use Rattle.words.specs.Lists.{below}
 use Rattle.decimal.specs.Decimal.{digits}
 use Rattle.fields.specs.Fields.{fieldsText, joined}
+use Rattle.refusals.specs.declared.Refusal.the-variants.{NoSuchRow}
 use Rattle.table.specs.Paper.{Row}
 use Rattle.table.specs.Value.{noValue, rowOf}
-use Rattle.ticks.specs.Ticks.{long}
 use Rattle.table.specs.declared.Row.{Row as RowValue}
 use Rattle.figures.specs.declared.Answer.{Answer}
 use Rattle.figures.specs.declared.Answer.the-variants.{Row as RowIs, Refused}
-use Rattle.verdicts.specs.declared.Bound.the-variants.{Whole}
-use Rattle.verdicts.specs.declared.Figure.the-variants.{Is}
 use Rattle.verdicts.specs.declared.Verdict.{Verdict}
-use Rattle.verdicts.specs.declared.Verdict.the-variants.{Fits}
 use Rattle.figures.specs.declared.RowFigures.{RowFigures}
 use Rattle.figures.specs.declared.Slot.{Slot}
 use Rattle.figures.specs.Answers.{slotOf}
@@ -35,7 +32,7 @@ answerLine r (Refused why) = []
 
 -- what is said to stand behind an array's end, where nothing does
 abbrev pub noSlot : Slot
-noSlot = slotOf (RowIs (record { verdict = Fits Whole (long 0); whole = Is (long 0); split = Is (long 0); rounds = 0 }))
+noSlot = slotOf (Refused NoSuchRow)
 
 -- the line of row k, from 0
 abbrev pub lineAt : List RowValue → List Slot → ℕ → List ℕ
