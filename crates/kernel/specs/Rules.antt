@@ -13,9 +13,9 @@ use Rattle.table.specs.Paper.{Row, Table, rowAt, Part, part, parts}
 pub data Job : Type 0 where
   job : ℕ → List Part → Job
 
--- a tick of processor time for a stretch that has c ticks left, with l behind it
+-- a tick of processor time for a stretch that has c ticks left, with l behind it; one of no ticks never ends: the rules allow none
 abbrev pub spend : ℕ → List Part → List Part
-spend zero l = l
+spend zero l = part zero zero ∷ l
 spend (suc zero) l = l
 spend (suc (suc c)) l = part zero (suc c) ∷ l
 

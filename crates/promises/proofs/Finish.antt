@@ -36,7 +36,7 @@ within-total (part w c ∷ l) (part s k ∷ m) h = omega (arith, within-total l 
 pub advance-positive : (b : Bool) (l : List Part) → Positive l → Positive (advance b l)
 advance-positive b [] h = tt
 advance-positive b (part (suc w) c ∷ l) h = h
-advance-positive true (part zero zero ∷ l) h = h .1
+advance-positive true (part zero zero ∷ l) h = h
 advance-positive true (part zero (suc zero) ∷ l) h = h .1
 advance-positive true (part zero (suc (suc c)) ∷ l) h = (omega arith, h .1)
 advance-positive false (part zero c ∷ l) h = h
