@@ -1,2 +1,4 @@
 pub mod Rules
 pub mod Completion
+pub mod Numbers
+pub mod Witness

@@ -78,9 +78,13 @@ Within [] (x ∷ m) = ⊥
 Within (x ∷ l) [] = ⊥
 Within (part w c ∷ l) (part s k ∷ m) = (w ≤ s) × (1 ≤ c) × (c ≤ k) × Within l m
 
+-- two releases of a row, at u and later at v, lie at least T apart
+abbrev pub Apart : Row → ℕ → ℕ → Type 0
+Apart r u v = u + r .period ≤ v
+
 -- the releases of one row: at least T apart, each with times within the row's
 pub record Legal (r : Row) (releases : ℕ → Option (List Part)) : Type 0 where
-  pub apart : (u v : ℕ) (l m : List Part) → u < v → releases u ≡ some l → releases v ≡ some m → u + r .period ≤ v
+  pub apart : (u v : ℕ) (l m : List Part) → u < v → releases u ≡ some l → releases v ≡ some m → Apart r u v
   pub within : (u : ℕ) (l : List Part) → releases u ≡ some l → Within l (parts (r .times))
 
 -- a run that the rules allow, of a table's rows
