@@ -34,16 +34,26 @@ done-same (job r l ∷ q) = (
   (λ h. and-both (lt-ltb 0 r (h 0 (omega arith))) (done-same q .1 (λ j lt. h (suc j) (omega arith)))),
 )
 
+-- the jobs of row k that are not complete after n ticks of the full run, and whether the first is none of them
+abbrev left : (ℕ → Row) → ℕ → ℕ → List Job
+left rows k n = after (full rows) n k
+
+abbrev done : (ℕ → Row) → ℕ → ℕ → Bool
+done rows k n = firstDone (left rows k n)
+
 -- the completion in one tick more than n, where these gave o, and b says whether the first job is complete behind it
 abbrev last : ℕ → Option ℕ → Bool → Option ℕ
 last n o b = orElse o (if b then some (suc n) else none)
 
 module _ (rows : ℕ → Row) (k : ℕ) where
-  not-before : (n : ℕ) → completion rows k n ≡ none → (u : ℕ) → 1 ≤ u → u ≤ n → NoneLeft 0 (after (full rows) u k) → ⊥
+  one-more : (n : ℕ) → completion rows k (suc n) ≡ last n (completion rows k n) (done rows k (suc n))
+  one-more n = refl
+
+  not-before : (n : ℕ) → completion rows k n ≡ none → (u : ℕ) → 1 ≤ u → u ≤ n → NoneLeft 0 (left rows k u) → ⊥
   not-before zero e u p le h = omega arith
-  not-before (suc n) e u p le h = go (completion rows k n) (firstDone (after (full rows) (suc n) k)) refl refl e (λ z le. not-before n z u p le h)
+  not-before (suc n) e u p le h = go (completion rows k n) (done rows k (suc n)) refl refl (sym (one-more n) ∙ e) (λ z le. not-before n z u p le h)
     where
-      go : (o : Option ℕ) (b : Bool) → completion rows k n ≡ o → firstDone (after (full rows) (suc n) k) ≡ b → last n o b ≡ none →
+      go : (o : Option ℕ) (b : Bool) → completion rows k n ≡ o → done rows k (suc n) ≡ b → last n o b ≡ none →
           (completion rows k n ≡ none → u ≤ n → ⊥) → ⊥
       go (some x) b eo eb z ih = Option·none-ne-some x (sym z)
       go none true eo eb z ih = Option·none-ne-some (suc n) (sym z)
@@ -53,13 +63,13 @@ module _ (rows : ℕ → Row) (k : ℕ) where
           at (yes le) = ih eo le
           at (no nle) =
               let i : u ≡ suc n = omega arith in
-              false≢true (sym eb ∙ done-same (after (full rows) (suc n) k) .1 (subst (λ v. NoneLeft 0 (after (full rows) v k)) i h))
+              false≢true (sym eb ∙ done-same (left rows k (suc n)) .1 (subst (λ v. NoneLeft 0 (left rows k v)) i h))
 
   first : (n c : ℕ) → completion rows k n ≡ some c → FirstEnd rows k n c
   first zero c e = absurd (Option·none-ne-some c e)
-  first (suc n) c e = go (completion rows k n) (firstDone (after (full rows) (suc n) k)) refl refl e (first n c)
+  first (suc n) c e = go (completion rows k n) (done rows k (suc n)) refl refl (sym (one-more n) ∙ e) (first n c)
     where
-      go : (o : Option ℕ) (b : Bool) → completion rows k n ≡ o → firstDone (after (full rows) (suc n) k) ≡ b → last n o b ≡ some c →
+      go : (o : Option ℕ) (b : Bool) → completion rows k n ≡ o → done rows k (suc n) ≡ b → last n o b ≡ some c →
           (completion rows k n ≡ some c → FirstEnd rows k n c) → FirstEnd rows k (suc n) c
       go (some x) b eo eb z ih =
           let f = ih (eo ∙ z) in
@@ -69,24 +79,27 @@ module _ (rows : ℕ → Row) (k : ℕ) where
           (record {
             ticked = omega arith;
             inside = omega arith;
-            ended = done-same (after (full rows) (suc n) k) .0 eb;
+            ended = done-same (left rows k (suc n)) .0 eb;
             before = λ u p lt. not-before n eo u p (omega arith);
           })
       go none false eo eb z ih = absurd (Option·none-ne-some c z)
 
   only : (n c : ℕ) → FirstEnd rows k n c → completion rows k n ≡ some c
   only zero c f = absurd (omega (arith, f .ticked, f .inside))
-  only (suc n) c f = go (decLe c n) (completion rows k n) refl (λ le. only n c (record { ticked = f .ticked; inside = le; ended = f .ended; before = f .before }))
+  only (suc n) c f =
+      go (decLe c n) (completion rows k n) refl
+      (λ le. only n c (record { ticked = f .ticked; inside = le; ended = f .ended; before = f .before }))
     where
       go : Dec (c ≤ n) → (o : Option ℕ) → completion rows k n ≡ o → (c ≤ n → completion rows k n ≡ some c) → completion rows k (suc n) ≡ some c
-      go (yes le) o e ih = ap (λ o. last n o (firstDone (after (full rows) (suc n) k))) (ih le)
+      go (yes le) o e ih = one-more n ∙ ap (λ o. last n o (done rows k (suc n))) (ih le)
       go (no nle) (some x) e ih =
           let g = first n x e in
           absurd (f .before x (g .ticked) (omega (arith, g .inside)) (g .ended))
       go (no nle) none e ih =
           let i : c ≡ suc n = omega (arith, f .inside) in
-          ap (λ o. last n o (firstDone (after (full rows) (suc n) k))) e
-          ∙ if-true (some (suc n)) none (done-same (after (full rows) (suc n) k) .1 (subst (λ v. NoneLeft 0 (after (full rows) v k)) i (f .ended)))
+          one-more n
+          ∙ ap (λ o. last n o (done rows k (suc n))) e
+          ∙ if-true (some (suc n)) none (done-same (left rows k (suc n)) .1 (subst (λ v. NoneLeft 0 (left rows k v)) i (f .ended)))
           ∙ ap some (sym i)
 
   -- the completion that the rules give is the first instant after a tick at which the first job is complete

@@ -131,7 +131,7 @@ module _ (r : Row) where
   row-same releases = (forth, back)
     where
       forth : Legal r releases → LegalRow r releases
-      forth h = record { jobs = λ u l e. job-same l .0 (h .within u l e); pauses = λ u l e d some-d few-d. go u l e d some-d few-d (releases (u + d)) refl }
+      forth h = record { jobs = λ u l e. job-same l .0 (h .within u l e); apart = λ u l e d some-d few-d. go u l e d some-d few-d (releases (u + d)) refl }
         where
           go : (u : ℕ) (l : List Part) → releases u ≡ some l → (d : ℕ) → 0 < d → d < r .period
               → (o : Option (List Part)) → releases (u + d) ≡ o → releases (u + d) ≡ none
@@ -145,9 +145,9 @@ module _ (r : Row) where
           go u v l m lt e f (yes le) = le
           go u v l m lt e f (no le) =
               let z : u + (v - u) ≡ v = omega arith in
-              absurd (Option·none-ne-some m (sym (h .pauses u l e (v - u) (omega arith) (omega arith)) ∙ ap releases z ∙ f))
+              absurd (Option·none-ne-some m (sym (h .apart u l e (v - u) (omega arith) (omega arith)) ∙ ap releases z ∙ f))
 
 -- a run is allowed by the one exactly where it is by the other
 pub legal-same : (t : Table) (run : ℕ → Input) → LegalRun t run ↔ LegalNumbers t run
 legal-same t run =
-    ((λ h i lt. row-same (rowAt t i) (λ u. run u i) .0 (h i lt)), (λ h i lt. row-same (rowAt t i) (λ u. run u i) .1 (h i lt)))
+    ((λ h i lt. row-same (rowAt t i) (λ u. run u i) .0 (h i (omega arith))), (λ h i lt. row-same (rowAt t i) (λ u. run u i) .1 (h i (omega arith))))

@@ -1,3 +1,3 @@
+pub mod Witness
 pub mod Legal
 pub mod Ended
-pub mod Witness

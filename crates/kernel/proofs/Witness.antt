@@ -12,9 +12,10 @@ use Rattle.words.specs.Choice.{if_then_else_, _and_, _or_}
 use Rattle.words.specs.Lists.{sum, all, any, same}
 use Rattle.table.specs.Paper.{Row, Table, Part, part, parts, nameByte, rightName, rightNumber, rightCount, rightRow, waits, named, rightRows, rightTable}
 use Rattle.kernel.specs.Rules.{Job, job, Within, Apart, LegalRun}
-use Rattle.kernel.specs.Witness.{listed, runOf, Allowed, openTable, thirdLater, TogetherIsNotWorst, pausedTable, lessTaken, LessIsAllowed}
-use Rattle.kernel.specs.Witness.{oneTable, seldom, SeldomIsAllowed, fullTable, everyT, ExactlyTIsAllowed, lateTable, lateJobs, LateIsServedInOrder}
-use Rattle.kernel.specs.Witness.{tickTable, NoTickIsBarred, shortTable, LongerStretchIsBarred, LongerSuspensionIsBarred, NearReleasesAreBarred}
+use Rattle.kernel.specs.Witness.{listed, runOf, once, Allowed, openTable, thirdLater, TogetherIsNotWorst, TogetherEndsAt12}
+use Rattle.kernel.specs.Witness.{pausedTable, lessTaken, LessIsAllowed, oneTable, seldom, SeldomIsAllowed, fullTable, everyT, ExactlyTIsAllowed}
+use Rattle.kernel.specs.Witness.{lateTable, lateJobs, LateIsServedInOrder, SuspendedIsNotReady}
+use Rattle.kernel.specs.Witness.{tickTable, oneTick, LeastStretch, LongestStretch, MostStretches, shortTable, LongestSuspension, LeastDistance}
 
 -- a fact of each release that is listed
 abbrev Each : (ℕ → List Part → Type 0) → List Job → Type 0
@@ -86,6 +87,10 @@ right = record { waiting = refl; paused = refl; one = refl; full = refl; late = 
 pub together-is-not-worst : TogetherIsNotWorst
 together-is-not-worst = (allowed openTable thirdLater (right .waiting) (omega arith, omega arith, omega arith), omega arith, omega arith)
 
+pub together-ends-at-12 : TogetherEndsAt12
+unfolding _and_
+together-ends-at-12 = (refl, refl, refl)
+
 pub less-is-allowed : LessIsAllowed
 less-is-allowed = (allowed pausedTable lessTaken (right .paused) (omega arith, omega arith, omega arith), omega arith, omega arith)
 
@@ -98,14 +103,50 @@ exactly-T-is-allowed = (allowed fullTable everyT (right .full) (omega arith, ome
 pub late-is-served-in-order : LateIsServedInOrder
 late-is-served-in-order = (allowed lateTable lateJobs (right .late) (omega arith, omega arith, omega arith), omega arith, omega arith)
 
-pub no-tick-is-barred : NoTickIsBarred
-no-tick-is-barred = record { right = right .tick; illegal = λ h. omega (arith, h 0 (omega arith) .within 0 _ refl); late = omega arith }
+pub suspended-is-not-ready : SuspendedIsNotReady
+suspended-is-not-ready = (omega arith, omega arith)
 
-pub longer-stretch-is-barred : LongerStretchIsBarred
-longer-stretch-is-barred = record { right = right .tick; illegal = λ h. omega (arith, h 0 (omega arith) .within 0 _ refl); late = omega arith }
+pub least-stretch : LeastStretch
+least-stretch =
+    record {
+      allowed = allowed tickTable oneTick (right .tick) (omega arith, omega arith, omega arith);
+      inTime = omega arith;
+      barred = λ h. omega (arith, h 0 (omega arith) .within 0 _ refl);
+      late = omega arith;
+    }
 
-pub longer-suspension-is-barred : LongerSuspensionIsBarred
-longer-suspension-is-barred = record { right = right .short; illegal = λ h. omega (arith, h 0 (omega arith) .within 0 _ refl); late = omega arith }
+pub longest-stretch : LongestStretch
+longest-stretch =
+    record {
+      allowed = allowed tickTable oneTick (right .tick) (omega arith, omega arith, omega arith);
+      inTime = omega arith;
+      barred = λ h. omega (arith, h 0 (omega arith) .within 0 _ refl);
+      late = omega arith;
+    }
 
-pub near-releases-are-barred : NearReleasesAreBarred
-near-releases-are-barred = record { right = right .full; illegal = λ h. omega (arith, h 0 (omega arith) .apart 0 1 _ _ (omega arith) refl refl); late = omega arith }
+pub most-stretches : MostStretches
+most-stretches =
+    record {
+      allowed = allowed tickTable oneTick (right .tick) (omega arith, omega arith, omega arith);
+      inTime = omega arith;
+      barred = λ h. h 0 (omega arith) .within 0 _ refl .3;
+      late = omega arith;
+    }
+
+pub longest-suspension : LongestSuspension
+longest-suspension =
+    record {
+      allowed = allowed shortTable ((job 0 (part 0 1 ∷ part 1 1 ∷ []) ∷ []) ∷ []) (right .short) (omega arith, omega arith, omega arith);
+      inTime = omega arith;
+      barred = λ h. omega (arith, h 0 (omega arith) .within 0 _ refl);
+      late = omega arith;
+    }
+
+pub least-distance : LeastDistance
+least-distance =
+    record {
+      allowed = allowed fullTable ((once 0 1 ∷ once 2 1 ∷ []) ∷ (once 0 2 ∷ []) ∷ []) (right .full) (omega arith, omega arith, omega arith);
+      inTime = omega arith;
+      barred = λ h. omega (arith, h 0 (omega arith) .apart 0 1 _ _ (omega arith) refl refl);
+      late = omega arith;
+    }

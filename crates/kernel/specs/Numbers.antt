@@ -21,10 +21,11 @@ abbrev pub suspension : Row → ℕ → ℕ
 suspension r zero = 0
 suspension r (suc j) = getD (r .times) (2 * j + 1) 0
 
--- the ticks of a stretch, and of the suspension before it
+-- the ticks of a stretch
 abbrev pub ticks : Part → ℕ
 ticks (part s c) = c
 
+-- the ticks of the suspension before it
 abbrev pub pause : Part → ℕ
 pause (part s c) = s
 
@@ -46,7 +47,7 @@ pub record LegalJob (r : Row) (l : List Part) : Type 0 where
 -- a row's releases: each a job that it may release, and none in the T - 1 ticks after a release
 pub record LegalRow (r : Row) (releases : ℕ → Option (List Part)) : Type 0 where
   pub jobs : (u : ℕ) (l : List Part) → releases u ≡ some l → LegalJob r l
-  pub pauses : (u : ℕ) (l : List Part) → releases u ≡ some l → (d : ℕ) → 0 < d → d < r .period → releases (u + d) ≡ none
+  pub apart : (u : ℕ) (l : List Part) → releases u ≡ some l → (d : ℕ) → 0 < d → d < r .period → releases (u + d) ≡ none
 
 -- a run in which every row of the table releases so
 abbrev pub LegalNumbers : Table → (ℕ → Input) → Type 0

@@ -12,6 +12,7 @@ use Rattle.words.specs.Choice.{if_then_else_}
 use Rattle.words.specs.Spelled.{spelled}
 use Rattle.table.specs.Paper.{Row, Table, rowAt, Part, part, rightTable}
 use Rattle.kernel.specs.Rules.{Job, job, Input, after, full, LegalRun, Complete}
+use Rattle.kernel.specs.Completion.{completion}
 
 -- a row: its name, T, D and times
 abbrev pub row : String → ℕ → ℕ → List ℕ → Row
@@ -36,11 +37,13 @@ pub record Allowed (t : Table) (run : ℕ → Input) : Type 0 where
   pub right : rightTable t ≡ true
   pub legal : LegalRun t run
 
--- a table that keeps its rules, and a run of it that does not keep the kernel's, in which a job of row k, released at s, is not complete within R
-pub record Barred (t : Table) (run : ℕ → Input) (k s R : ℕ) : Type 0 where
-  pub right : rightTable t ≡ true
-  pub illegal : LegalRun t run → ⊥
-  pub late : Complete s (after run (s + R) k) → ⊥
+-- both sides of a rule: a run that just keeps it, in which a job of row k, released at s, is complete within R,
+-- and one that breaks it by one, and no other rule: it is not allowed, and in it that job is not complete within R
+pub record BothSides (t : Table) (kept broken : List (List Job)) (k s R : ℕ) : Type 0 where
+  pub allowed : Allowed t (runOf kept)
+  pub inTime : Complete s (after (runOf kept) (s + R) k)
+  pub barred : LegalRun t (runOf broken) → ⊥
+  pub late : Complete s (after (runOf broken) (s + R) k) → ⊥
 
 -- a job of one stretch, released at u
 abbrev pub once : ℕ → ℕ → Job
@@ -60,6 +63,11 @@ thirdLater = (once 0 1 ∷ once 4 1 ∷ once 8 1 ∷ once 12 1 ∷ []) ∷ (once
 abbrev pub TogetherIsNotWorst : Type 0
 TogetherIsNotWorst = Allowed openTable (runOf thirdLater) × Ends (runOf thirdLater) 3 0 14 × Ends (full (rowAt openTable)) 3 0 12
 
+-- the completion that the full run gives for it: none in 11 ticks, 12 in 12 and in more
+abbrev pub TogetherEndsAt12 : Type 0
+TogetherEndsAt12 =
+    (completion (rowAt openTable) 3 11 ≡ none) × (completion (rowAt openTable) 3 12 ≡ some 12) × (completion (rowAt openTable) 3 14 ≡ some 12)
+
 -- the table of source 003
 abbrev pub pausedTable : Table
 pausedTable = row "a" 10 10 (2 ∷ []) ∷ row "b" 11 11 (1 ∷ 6 ∷ 1 ∷ []) ∷ []
@@ -72,10 +80,11 @@ lessTaken = (once 0 1 ∷ []) ∷ (job 0 (part 0 1 ∷ part 0 1 ∷ []) ∷ job 
 abbrev pub LessIsAllowed : Type 0
 LessIsAllowed = Allowed pausedTable (runOf lessTaken) × Ends (runOf lessTaken) 1 0 3 × Ends (runOf lessTaken) 1 11 16
 
--- one row, released at 3 and at 9
+-- a row alone
 abbrev pub oneTable : Table
 oneTable = row "a" 4 4 (2 ∷ []) ∷ []
 
+-- released at 3 and at 9, full times
 abbrev pub seldom : List (List Job)
 seldom = (once 3 2 ∷ once 9 2 ∷ []) ∷ []
 
@@ -107,31 +116,46 @@ lateJobs = (once 0 1 ∷ once 2 1 ∷ once 4 1 ∷ once 6 1 ∷ []) ∷ (once 0 
 abbrev pub LateIsServedInOrder : Type 0
 LateIsServedInOrder = Allowed lateTable (runOf lateJobs) × Ends (runOf lateJobs) 1 0 4 × Ends (runOf lateJobs) 1 3 8
 
--- ---- not allowed: each breaks one rule, and a row that fits with R has a job that is not complete within R
+-- the highest row with ready work runs, and a suspended job is no ready work: the lower row runs meanwhile, and its job is complete first.
+-- Document 01 has no such table, since only its last row may be suspended; the rules are said of any.
+abbrev pub pausedAbove : List (List Job)
+pausedAbove = (job 0 (part 0 1 ∷ part 2 1 ∷ []) ∷ []) ∷ (once 0 2 ∷ []) ∷ []
+
+abbrev pub SuspendedIsNotReady : Type 0
+SuspendedIsNotReady = Ends (runOf pausedAbove) 0 0 4 × Ends (runOf pausedAbove) 1 0 3
+
+-- ---- allowed, and by one not: a row that fits with R has a job that is not complete within R, so that demand 3 would be false of more runs
 
 -- the row alone fits with 1
 abbrev pub tickTable : Table
 tickTable = row "a" 1 1 (1 ∷ []) ∷ []
 
--- a stretch of no ticks
-abbrev pub NoTickIsBarred : Type 0
-NoTickIsBarred = Barred tickTable (runOf ((once 0 0 ∷ []) ∷ [])) 0 0 1
+-- released at 0, for its tick
+abbrev pub oneTick : List (List Job)
+oneTick = (once 0 1 ∷ []) ∷ []
 
--- a stretch of C + 1
-abbrev pub LongerStretchIsBarred : Type 0
-LongerStretchIsBarred = Barred tickTable (runOf ((once 0 2 ∷ []) ∷ [])) 0 0 1
+-- a stretch takes 1 tick or more
+abbrev pub LeastStretch : Type 0
+LeastStretch = BothSides tickTable oneTick ((once 0 0 ∷ []) ∷ []) 0 0 1
+
+-- a stretch takes at most its C
+abbrev pub LongestStretch : Type 0
+LongestStretch = BothSides tickTable oneTick ((once 0 2 ∷ []) ∷ []) 0 0 1
+
+-- a job has no more stretches than its row
+abbrev pub MostStretches : Type 0
+MostStretches = BothSides tickTable oneTick ((job 0 (part 0 1 ∷ part 0 1 ∷ []) ∷ []) ∷ []) 0 0 1
 
 -- the row alone fits with 3
 abbrev pub shortTable : Table
 shortTable = row "a" 3 3 (1 ∷ 1 ∷ 1 ∷ []) ∷ []
 
--- a suspension of S + 1
-abbrev pub LongerSuspensionIsBarred : Type 0
-LongerSuspensionIsBarred = Barred shortTable (runOf ((job 0 (part 0 1 ∷ part 2 1 ∷ []) ∷ []) ∷ [])) 0 0 3
+-- a suspension takes at most its S
+abbrev pub LongestSuspension : Type 0
+LongestSuspension =
+    BothSides shortTable ((job 0 (part 0 1 ∷ part 1 1 ∷ []) ∷ []) ∷ []) ((job 0 (part 0 1 ∷ part 2 1 ∷ []) ∷ []) ∷ []) 0 0 3
 
--- the first row's second release T - 1 after its first: the second row fits with 4
-abbrev pub nearJobs : List (List Job)
-nearJobs = (once 0 1 ∷ once 1 1 ∷ once 3 1 ∷ []) ∷ (once 0 2 ∷ []) ∷ []
-
-abbrev pub NearReleasesAreBarred : Type 0
-NearReleasesAreBarred = Barred fullTable (runOf nearJobs) 1 0 4
+-- releases lie at least T apart: here two of the first row, T or T - 1, and the second row fits with 4
+abbrev pub LeastDistance : Type 0
+LeastDistance =
+    BothSides fullTable ((once 0 1 ∷ once 2 1 ∷ []) ∷ (once 0 2 ∷ []) ∷ []) ((once 0 1 ∷ once 1 1 ∷ once 3 1 ∷ []) ∷ (once 0 2 ∷ []) ∷ []) 1 0 4
