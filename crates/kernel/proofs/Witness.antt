@@ -106,38 +106,23 @@ late-is-served-in-order = (allowed lateTable lateJobs (right .late) (omega arith
 pub suspended-is-not-ready : SuspendedIsNotReady
 suspended-is-not-ready = (omega arith, omega arith)
 
+one-tick : Allowed tickTable (runOf oneTick)
+one-tick = allowed tickTable oneTick (right .tick) (omega arith, omega arith, omega arith)
+
 pub least-stretch : LeastStretch
-least-stretch =
-    record {
-      allowed = allowed tickTable oneTick (right .tick) (omega arith, omega arith, omega arith);
-      inTime = omega arith;
-      barred = λ h. omega (arith, h 0 (omega arith) .within 0 _ refl);
-      late = omega arith;
-    }
+least-stretch = record { allowed = one-tick; inTime = tt; barred = λ h. omega (arith, h 0 (omega arith) .within 0 _ refl); late = omega arith }
 
 pub longest-stretch : LongestStretch
-longest-stretch =
-    record {
-      allowed = allowed tickTable oneTick (right .tick) (omega arith, omega arith, omega arith);
-      inTime = omega arith;
-      barred = λ h. omega (arith, h 0 (omega arith) .within 0 _ refl);
-      late = omega arith;
-    }
+longest-stretch = record { allowed = one-tick; inTime = tt; barred = λ h. omega (arith, h 0 (omega arith) .within 0 _ refl); late = omega arith }
 
 pub most-stretches : MostStretches
-most-stretches =
-    record {
-      allowed = allowed tickTable oneTick (right .tick) (omega arith, omega arith, omega arith);
-      inTime = omega arith;
-      barred = λ h. h 0 (omega arith) .within 0 _ refl .3;
-      late = omega arith;
-    }
+most-stretches = record { allowed = one-tick; inTime = tt; barred = λ h. h 0 (omega arith) .within 0 _ refl .3; late = omega arith }
 
 pub longest-suspension : LongestSuspension
 longest-suspension =
     record {
       allowed = allowed shortTable ((job 0 (part 0 1 ∷ part 1 1 ∷ []) ∷ []) ∷ []) (right .short) (omega arith, omega arith, omega arith);
-      inTime = omega arith;
+      inTime = tt;
       barred = λ h. omega (arith, h 0 (omega arith) .within 0 _ refl);
       late = omega arith;
     }
@@ -146,7 +131,7 @@ pub least-distance : LeastDistance
 least-distance =
     record {
       allowed = allowed fullTable ((once 0 1 ∷ once 2 1 ∷ []) ∷ (once 0 2 ∷ []) ∷ []) (right .full) (omega arith, omega arith, omega arith);
-      inTime = omega arith;
+      inTime = tt;
       barred = λ h. omega (arith, h 0 (omega arith) .apart 0 1 _ _ (omega arith) refl refl);
       late = omega arith;
     }

@@ -112,15 +112,15 @@ lateTable = row "a" 2 2 (1 ∷ []) ∷ row "b" 3 3 (2 ∷ []) ∷ []
 abbrev pub lateJobs : List (List Job)
 lateJobs = (once 0 1 ∷ once 2 1 ∷ once 4 1 ∷ once 6 1 ∷ []) ∷ (once 0 2 ∷ once 3 2 ∷ []) ∷ []
 
--- a row's jobs are served in release order, one after another, also when late: at 3 the second is released, and waits for the first, which is complete at 4
+-- a row's jobs are served in release order, one after another, also when late: the second, released at 3, waits for the first, complete at 4
 abbrev pub LateIsServedInOrder : Type 0
 LateIsServedInOrder = Allowed lateTable (runOf lateJobs) × Ends (runOf lateJobs) 1 0 4 × Ends (runOf lateJobs) 1 3 8
 
--- the highest row with ready work runs, and a suspended job is no ready work: the lower row runs meanwhile, and its job is complete first.
--- Document 01 has no such table, since only its last row may be suspended; the rules are said of any.
+-- a suspended job above another: document 01 has no such table, since only its last row may be suspended, but the rules are said of any
 abbrev pub pausedAbove : List (List Job)
 pausedAbove = (job 0 (part 0 1 ∷ part 2 1 ∷ []) ∷ []) ∷ (once 0 2 ∷ []) ∷ []
 
+-- a suspended job is no ready work: the lower row runs meanwhile
 abbrev pub SuspendedIsNotReady : Type 0
 SuspendedIsNotReady = Ends (runOf pausedAbove) 0 0 4 × Ends (runOf pausedAbove) 1 0 3
 
