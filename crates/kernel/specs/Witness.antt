@@ -38,7 +38,7 @@ pub record Allowed (t : Table) (run : ℕ → Input) : Type 0 where
   pub legal : LegalRun t run
 
 -- both sides of a rule: a run that just keeps it, in which a job of row k, released at s, is complete within R,
--- and one that breaks it by one, and no other rule: it is not allowed, and in it that job is not complete within R
+-- and one that breaks it by one: it is not allowed, and in it that job is not complete within R
 pub record BothSides (t : Table) (kept broken : List (List Job)) (k s R : ℕ) : Type 0 where
   pub allowed : Allowed t (runOf kept)
   pub inTime : Complete s (after (runOf kept) (s + R) k)
