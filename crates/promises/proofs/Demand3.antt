@@ -1,15 +1,12 @@
 -- Demand 3 of specs/Demands, shown.
 use mathlib.Core.Path.{_≡_, refl, sym, ap, _∙_}
-use mathlib.Core.Bool.{Bool, true, false, false≢true}
+use mathlib.Core.Bool.{true, false}
 use mathlib.Core.List.{List, [], _∷_}
 use mathlib.Core.Option.{Option, none, some}
-use Prim.Native.Nat.{ℕ, zero, suc, _+_, _-_, _≤_, _<_}
+use Prim.Native.Nat.{ℕ, _+_, _-_, _≤_, _<_}
 use native.Mathlib.Omega.{arith}
 use native.Mathlib.Decide.{decLe}
 use lib.ListN.{length, getD}
-use borrow.Author.Tests.{ltb-true, lt-ltb}
-use Rattle.words.specs.Choice.{if_then_else_}
-use Rattle.words.proofs.Choice.{if-true, if-false, and-parts, and-both}
 use Rattle.words.proofs.Filled.{filled-at}
 use Rattle.ticks.specs.declared.Length.{Length}
 use Rattle.ticks.specs.declared.Instant.{Instant}
@@ -25,8 +22,9 @@ use Rattle.figures.specs.declared.RowFigures.{RowFigures}
 use Rattle.figures.specs.Figures.{whole, split, verdict}
 use Rattle.figures.proofs.Rows.{sane}
 use Rattle.figures.proofs.Verdicts.{ofBound, fits-bound, whole-fixed}
-use Rattle.kernel.specs.Rules.{Job, job, after, full, Complete}
-use Rattle.kernel.specs.Completion.{firstDone, orElse, completion}
+use Rattle.kernel.specs.Rules.{after, full, Complete}
+use Rattle.kernel.specs.Completion.{completion}
+use Rattle.kernel.proofs.Ended.{complete-same, completion-same}
 use Rattle.machine.specs.declared.First.the-variants.{At, Not}
 use Rattle.machine.specs.declared.FullRun.{FullRun}
 use Rattle.machine.specs.declared.Slot.{Slot}
@@ -70,67 +68,29 @@ demand-3-in-time v n a h b R x =
 pub demand-3-legal : FullRunLegal
 demand-3-legal v ok = full-legal (tableOf v) (value-forth v ok .1)
 
--- the first job is complete exactly where the rules' queue holds none that was released at 0
-done-complete : (q : List Job) → firstDone q ≡ true → Complete 0 q
-done-complete [] e = tt
-done-complete (job r l ∷ q) e = (ltb-true 0 r (and-parts e .0), done-complete q (and-parts e .1))
-
-complete-done : (q : List Job) → Complete 0 q → firstDone q ≡ true
-complete-done [] c = refl
-complete-done (job r l ∷ q) c = and-both (lt-ltb 0 r (c .0)) (complete-done q (c .1))
-
-not-done : (q : List Job) → (Complete 0 q → ⊥) → firstDone q ≡ false
-not-done q f = go (firstDone q) refl
+-- a row of one stretch whose first job is complete at F and not before: that is what the full run gives
+completion-from : (rows : ℕ → Row) (k F m : ℕ) → 1 ≤ F → ((u : ℕ) → 1 ≤ u → u < F → Complete 0 (after (full rows) u k) → ⊥) → Complete 0 (after (full rows) F k)
+    → (F ≤ m → completion rows k m ≡ some F) × (m < F → completion rows k m ≡ none)
+completion-from rows k F m p before at = (there, missing)
   where
-    go : (b : Bool) → firstDone q ≡ b → b ≡ false
-    go true e = absurd (f (done-complete q e))
-    go false e = refl
+    there : F ≤ m → completion rows k m ≡ some F
+    there h =
+        completion-same rows k m F .1
+        (record {
+          ticked = p;
+          inside = h;
+          ended = complete-same 0 (after (full rows) F k) .0 at;
+          before = λ u q l z. before u q l (complete-same 0 (after (full rows) u k) .1 z);
+        })
 
-module _ (rows : ℕ → Row) (k : ℕ) where
-  -- the completion that the run gives is the first instant at which the job is complete
-  completion-at : (F : ℕ) → 1 ≤ F → ((u : ℕ) → 1 ≤ u → u < F → firstDone (after (full rows) u k) ≡ false) → firstDone (after (full rows) F k) ≡ true
-      → (n : ℕ) → (F ≤ n → completion rows k n ≡ some F) × (n < F → completion rows k n ≡ none)
-  completion-at F p before at zero = ((λ h. absurd (omega arith)), (λ h. refl))
-  completion-at F p before at (suc n) = (there (completion-at F p before at n), missing (completion-at F p before at n))
-    where
-      there : (F ≤ n → completion rows k n ≡ some F) × (n < F → completion rows k n ≡ none) → F ≤ suc n → completion rows k (suc n) ≡ some F
-      there ih h = go (decLe F n)
-        where
-          go : Dec (F ≤ n) → completion rows k (suc n) ≡ some F
-          go (yes l) = ap (λ o. orElse o (if firstDone (after (full rows) (suc n) k) then some (suc n) else none)) (ih .0 l)
-          go (no l) =
-              let z : suc n ≡ F = omega arith in
-              let e : firstDone (after (full rows) (suc n) k) ≡ true = ap (λ u. firstDone (after (full rows) u k)) z ∙ at in
-              ap (λ o. orElse o (if firstDone (after (full rows) (suc n) k) then some (suc n) else none)) (ih .1 (omega arith))
-              ∙ if-true (some (suc n)) none e ∙ ap some z
-
-      missing : (F ≤ n → completion rows k n ≡ some F) × (n < F → completion rows k n ≡ none) → suc n < F → completion rows k (suc n) ≡ none
-      missing ih h =
-          ap (λ o. orElse o (if firstDone (after (full rows) (suc n) k) then some (suc n) else none)) (ih .1 (omega arith))
-          ∙ if-false (some (suc n)) none (before (suc n) (omega arith) h)
-
-  -- a job that is not complete by D has no completion up to D
-  completion-late : (D : ℕ) → ((u : ℕ) → 1 ≤ u → u ≤ D → firstDone (after (full rows) u k) ≡ false) → (n c : ℕ) → completion rows k n ≡ some c → D < c
-  completion-late D late zero c e = absurd (let z : _≡_ {A = ℕ} 0 1 = cc in omega arith)
-  completion-late D late (suc n) c e = go (completion rows k n) refl (firstDone (after (full rows) (suc n) k)) refl (completion-late D late n)
-    where
-      go : (o : Option ℕ) → completion rows k n ≡ o → (b : Bool) → firstDone (after (full rows) (suc n) k) ≡ b → ((c : ℕ) → completion rows k n ≡ some c → D < c) → D < c
-      go (some x) p b f ih =
-          let z : some x ≡ some c = sym (ap (λ o. orElse o (if firstDone (after (full rows) (suc n) k) then some (suc n) else none)) p) ∙ e in
-          ih c (p ∙ z)
-      go none p true f ih =
-          let z : some (suc n) ≡ some c
-          = sym (ap (λ o. orElse o (if firstDone (after (full rows) (suc n) k) then some (suc n) else none)) p ∙ if-true (some (suc n)) none f) ∙ e in
-          let y : suc n ≡ c = cc in
-          later (decLe (suc n) D) y f
-        where
-          later : Dec (suc n ≤ D) → suc n ≡ c → firstDone (after (full rows) (suc n) k) ≡ true → D < c
-          later (yes l) y f = absurd (false≢true (sym (late (suc n) (omega arith) l) ∙ f))
-          later (no l) y f = omega arith
-      go none p false f ih =
-          let z : none ≡ some c
-          = sym (ap (λ o. orElse o (if firstDone (after (full rows) (suc n) k) then some (suc n) else none)) p ∙ if-false (some (suc n)) none f) ∙ e in
-          absurd (let y : _≡_ {A = ℕ} 0 1 = cc in omega arith)
+    missing : m < F → completion rows k m ≡ none
+    missing h = go (completion rows k m) refl
+      where
+        go : (o : Option ℕ) → completion rows k m ≡ o → o ≡ none
+        go none e = refl
+        go (some c) e =
+            let f = completion-same rows k m c .0 e in
+            absurd (before c (f .ticked) (omega (arith, f .inside)) (complete-same 0 (after (full rows) c k) .1 (f .ended)))
 
 completed-is : (v : TableValue) (m n : ℕ) → wellFormed v ≡ true → m ≤ mostTicks → n - 1 < length (tableOf v)
     → completed v m n ≡ slotOf (completion (rowAt (tableOf v)) (n - 1) m) .first
@@ -158,9 +118,8 @@ demand-3-exact v n a h one b R x = (reach, at)
         let t = tableOf v in
         let ok = right-table v n a q in
         let y = there v n a q in
-        let c = completion-at (rowAt t) (n - 1) (R .0) (positive-figure v n a q b R x)
-        (λ u p l. not-done (after (full (rowAt t)) u (n - 1)) (exact-before t ok (n - 1) y one e u p l))
-        (complete-done (after (full (rowAt t)) (R .0) (n - 1)) (exact-from t ok (n - 1) y one e (R .0) (omega arith))) m in
+        let c = completion-from (rowAt t) (n - 1) (R .0) m (positive-figure v n a q b R x) (exact-before t ok (n - 1) y one e)
+        (exact-from t ok (n - 1) y one e (R .0) (omega arith)) in
         let s = completed-is v m n (q .good) l y in
         ((λ l. s ∙ ap (λ o. slotOf o .first) (c .0 l)), (λ l. s ∙ ap (λ o. slotOf o .first) (c .1 l)))
 
@@ -169,10 +128,14 @@ demand-3-missed v n a h one x m l c e =
     let q = asked v n a h in
     let t = tableOf v in
     let y = there v n a q in
-    let late : (u : ℕ) → 1 ≤ u → u ≤ row v n .deadline → firstDone (after (full (rowAt t)) u (n - 1)) ≡ false
-    = λ u p l. not-done (after (full (rowAt t)) u (n - 1)) (exact-misses t (right-table v n a q) (n - 1) y one (sym (verdict-is v n a q) ∙ x) u p l) in
-    completion-late (rowAt t) (n - 1) (row v n .deadline) late m (c .0) (first-some _ c (sym (completed-is v m n (q .good) l y) ∙ e))
+    let f = completion-same (rowAt t) (n - 1) m (c .0) .0 (first-some _ c (sym (completed-is v m n (q .good) l y) ∙ e)) in
+    late (decLe (c .0) (row v n .deadline))
+    (λ h. exact-misses t (right-table v n a q) (n - 1) y one (sym (verdict-is v n a q) ∙ x) (c .0) (f .ticked) h (complete-same 0 (after (full (rowAt t)) (c .0) (n - 1)) .1 (f .ended)))
   where
     first-some : (o : Option ℕ) (c : Instant) → slotOf o .first ≡ At c → o ≡ some (c .0)
     first-some (some x) c f = let z : record { 0 = x } ≡ c = cc in ap (λ (i : Instant). some (i .0)) z
     first-some none c f = absurd (let z : _≡_ {A = ℕ} 0 1 = cc in omega arith)
+
+    late : Dec (c .0 ≤ row v n .deadline) → (c .0 ≤ row v n .deadline → ⊥) → row v n .deadline < c .0
+    late (yes h) no-way = absurd (no-way h)
+    late (no h) no-way = omega arith
