@@ -68,7 +68,7 @@ told verdict whole split rounds = figures (RowIs (record { verdict = verdict; wh
 abbrev pub tableA : Table
 tableA = line "pulse" 10 10 (2 ∷ []) ∷ line "radio" 25 20 (5 ∷ []) ∷ line "save" 100 60 (4 ∷ 20 ∷ 6 ∷ []) ∷ []
 
--- all of them
+-- all of them; `openTable` is 4 4 1, 20 20 2, 20 20 2, then 13 13 2 2 2
 abbrev pub cases : List Case
 cases =
     case (row tableA 1) (told (Fits Whole (long 2)) (some 2) none 1)
@@ -76,7 +76,7 @@ cases =
     ∷ case (row tableA 3) (told (Fits Split (long 48)) (some 50) (some 48) 9)
     ∷ case (report "pulse\t10\t10\t2\nradio\t25\t20\t5\nsave\t100\t60\t4\t20\t6\n")
     (bytes (spelled "pulse\tfits\t2\t2\t-\t1\nradio\tfits\t7\t7\t-\t2\nsave\tfits\t48\t50\t48\t9\ntable\tfits\n"))
-    ∷ case (row fullTable 2) (told (Fits Whole (long 4)) (some 4) none 3)
+    ∷ case (row (line "a" 2 2 (1 ∷ []) ∷ line "b" 4 4 (2 ∷ []) ∷ []) 2) (told (Fits Whole (long 4)) (some 4) none 3)
     ∷ case (row (line "a" 2 2 (1 ∷ []) ∷ line "b" 4 3 (2 ∷ []) ∷ []) 2) (told Misses none none 2)
     ∷ case (row (line "a" 2 2 (2 ∷ []) ∷ line "b" 9 9 (1 ∷ []) ∷ []) 2) (told Misses none none 5)
     ∷ case (row (line "a" 1 1 (1 ∷ []) ∷ []) 1) (told (Fits Whole (long 1)) (some 1) none 1)
