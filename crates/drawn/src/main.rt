@@ -1,4 +1,6 @@
 // Runs thousands of drawn texts, right and damaged, against the second program's stored answers.
+use replies::Kind;
+
 fn main() {
-    replies::put_reports();
+    vectors::answer_all(Kind::Report);
 }

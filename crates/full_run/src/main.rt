@@ -1,7 +1,6 @@
 // The full run: the number of ticks is the argument, the table text comes from standard input; writes for each row its name and the completion instant of its first job.
 use decimal::Number;
 use input::Input;
-use libc::STDERR_FILENO;
 use table::Table;
 
 // One byte more than a text may have, so that a text that is too long can be told.
@@ -13,17 +12,15 @@ const DIGITS: usize = 20;
 // The largest number of 64 bits.
 const LARGEST: u64 = 18_446_744_073_709_551_615;
 
-fn say(words: &[u8]) {
-    io::write_all(STDERR_FILENO, words);
-}
-
 fn run(ticks: u64) {
     let mut text = [0u8; INPUT];
+    let mut out = [0u8; replies::LONGEST];
     match input::read_whole(&mut text) {
         Input::Bytes(len) => {
-            replies::put_run(&text[..len], ticks);
+            let n = replies::run_of(&text[..len], ticks, &mut out);
+            output::put(&out[..n]);
         }
-        Input::Failed => say(b"standard input cannot be read\n"),
+        Input::Failed => {}
     }
 }
 
@@ -32,6 +29,8 @@ fn main() {
     let len = os::arg(1, &mut ticks);
     match decimal::read(&ticks[..len], 0, LARGEST) {
         Number::Is(n) => run(n),
-        Number::No => say(b"usage: full_run TICKS, a number with no leading zero and no sign\n"),
+        Number::No => {
+            output::say(b"usage: full_run TICKS, a number with no leading zero and no sign\n");
+        }
     }
 }

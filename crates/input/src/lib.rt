@@ -8,7 +8,7 @@ use libc::STDIN_FILENO;
 pub enum Input {
     // So many bytes, at the front of the buffer.
     Bytes(usize),
-    // A read failed.
+    // A read failed, and standard error says so.
     Failed,
 }
 
@@ -20,6 +20,7 @@ pub fn read_whole(buf: &mut [u8]) -> Input
     while at < buf.len() {
         let got = libc::read(STDIN_FILENO, &mut buf[at..]);
         if got < 0 {
+            output::say(b"standard input cannot be read\n");
             return Input::Failed;
         }
         let more = io::count(got, &buf[at..]);

@@ -1,4 +1,4 @@
--- The run of a table value: its lines, as the code has them, are the run on paper; and what was read is answered.
+-- The run of a table value: its lines, as the code has them, are the run on paper; and what answers it.
 use mathlib.Core.Path.{_≡_, refl, sym, ap, _∙_}
 use mathlib.Core.Bool.{true}
 use mathlib.Core.List.{List, [], _∷_, map}
@@ -9,36 +9,51 @@ use native.Mathlib.Decide.{decLe}
 use borrow.Author.Tests.{lt-ltb, le-ltb}
 use lib.ListN.{length, getD}
 use Rattle.words.specs.Lists.{below}
+use Rattle.words.specs.Buffer.{placed}
 use Rattle.words.proofs.Choice.{if-true, if-false}
 use Rattle.words.proofs.Filled.{below-same, filled-at}
+use Rattle.words.proofs.Lists.{getD-any}
 use Rattle.fields.specs.Fields.{line, joined}
 use Rattle.refusals.specs.declared.Refusal.{Refusal}
 use Rattle.refusals.specs.declared.Refusal.the-variants.{ManyTicks}
 use Rattle.table.specs.Limits.{mostTicks}
 use Rattle.table.specs.Paper.{Row, Table, rowAt}
-use Rattle.table.specs.Value.{tableOf, wellFormed}
+use Rattle.table.specs.Value.{noValue, rowOf, tableOf, wellFormed}
+use Rattle.table.specs.declared.Row.{Row as RowValue}
 use Rattle.table.specs.declared.Table.{Table as TableValue}
 use Rattle.table.proofs.Rules.{value-forth}
-use Rattle.text.specs.declared.Outcome.the-variants.{Accepted, Refused as RefusedText}
-use Rattle.text.specs.declared.Reading.{Reading}
-use Rattle.text.specs.Read.{Answer, accepted, readText, readingOf}
-use Rattle.text.proofs.Back.{reading-accepted, reading-refused}
+use Rattle.text.specs.declared.Written.the-variants.{Refused as WrittenRefused}
+use Rattle.text.specs.Read.{accepted}
+use Rattle.text.specs.Write.{lengthIn}
 use Rattle.table.proofs.Used.{row-is, len-is}
 use Rattle.machine.specs.declared.Outcome.the-variants.{Ran, Refused}
+use Rattle.machine.specs.declared.First.the-variants.{At}
 use Rattle.machine.specs.declared.Slot.{Slot}
 use Rattle.machine.specs.declared.FullRun.{FullRun}
 use Rattle.kernel.specs.Completion.{completion}
 use Rattle.machine.specs.Run.{slotOf, noSlot, completions, fullRun}
 use Rattle.machine.proofs.Completions.{run-there, run-many}
-use Rattle.refused.specs.Refused.{refusedLine}
-use Rattle.runs.specs.Runs.{instantText, runLine, runText, answerTo, runAnswer, longestRun}
+use Rattle.runs.specs.Runs.{instantText, runLine, runText, ranIn, ranInto, longestRun}
 use Rattle.runs.specs.Parts.{firstText, lineAt, linesText}
-use Rattle.runs.proofs.Fits.{table-fits}
+use Rattle.runs.proofs.Fits.{run-fits}
 
 -- a completion and its value have the same text
 slot-text : (o : Option ℕ) → firstText (slotOf o .first) ≡ instantText o
 slot-text none = refl
 slot-text (some c) = refl
+
+-- what the language says to stand behind the end of an array of answers
+abbrev pub behind : Slot
+behind = record { first = At (record { 0 = 0 }) }
+
+-- the line of row k, as the code reads it
+abbrev pub readAt : List RowValue → List Slot → ℕ → List ℕ
+readAt rows slots k = line (rowOf (getD rows k noValue) .name) (firstText (getD slots k behind .first) ∷ [])
+
+-- within the array it makes no difference what stands behind its end
+pub line-read : (rows : List RowValue) (slots : List Slot) (k : ℕ) → k < length slots → readAt rows slots k ≡ lineAt rows slots k
+line-read rows slots k h =
+    ap (λ (s : Slot). line (rowOf (getD rows k noValue) .name) (firstText (s .first) ∷ [])) (getD-any slots k behind noSlot h)
 
 module _ (v : TableValue) (ok : wellFormed v ≡ true) (n : ℕ) where
   abbrev t : Table
@@ -68,44 +83,43 @@ module _ (v : TableValue) (ok : wellFormed v ≡ true) (n : ℕ) where
   pub run-refused : mostTicks < n → fullRun v n .outcome ≡ Refused ManyTicks
   run-refused h = ap (λ (r : FullRun). r .outcome) (run-many v n ok h)
 
-  -- the answer where the run took place
-  pub answer-ran : (r : FullRun) → r ≡ fullRun v n → r .outcome ≡ Ran → answerTo (accepted t) n ≡ linesText (v .rows) (r .rows) (v .len)
-  answer-ran r e o = go (decLe n mostTicks)
-    where
-      go : Dec (n ≤ mostTicks) → answerTo (accepted t) n ≡ linesText (v .rows) (r .rows) (v .len)
-      go (yes h) = if-false _ _ (le-ltb mostTicks n h) ∙ sym (ap (λ (q : FullRun). linesText (v .rows) (q .rows) (v .len)) e ∙ run-lines h .1)
-      go (no h) =
-          let z : Ran ≡ Refused ManyTicks = sym o ∙ ap (λ (q : FullRun). q .outcome) e ∙ run-refused (omega arith) in
-          absurd (let y : _≡_ {A = ℕ} 0 1 = cc in omega arith)
+  module _ (r : FullRun) (e : r ≡ fullRun v n) where
+    -- a run that took place had no more ticks than it may have
+    ran-ticks : r .outcome ≡ Ran → n ≤ mostTicks
+    ran-ticks o = go (decLe n mostTicks)
+      where
+        go : Dec (n ≤ mostTicks) → n ≤ mostTicks
+        go (yes h) = h
+        go (no h) =
+            let z : Ran ≡ Refused ManyTicks = sym o ∙ ap (λ (q : FullRun). q .outcome) e ∙ run-refused (omega arith) in
+            absurd (let y : _≡_ {A = ℕ} 0 1 = cc in omega arith)
 
-  -- and where it was refused
-  pub answer-refused : (r : FullRun) (why : Refusal) → r ≡ fullRun v n → r .outcome ≡ Refused why → answerTo (accepted t) n ≡ refusedLine why
-  answer-refused r why e o = go (decLe n mostTicks)
-    where
-      go : Dec (n ≤ mostTicks) → answerTo (accepted t) n ≡ refusedLine why
-      go (yes h) =
-          let z : Ran ≡ Refused why = sym (ap (λ (q : FullRun). q .outcome) e ∙ run-lines h .0) ∙ o in
-          absurd (let y : _≡_ {A = ℕ} 0 1 = cc in omega arith)
-      go (no h) =
-          let z : Refused ManyTicks ≡ Refused why = sym (ap (λ (q : FullRun). q .outcome) e ∙ run-refused (omega arith)) ∙ o in
-          let w : ManyTicks ≡ why = cc in
-          if-true _ _ (lt-ltb mostTicks n (omega arith)) ∙ ap refusedLine w
+    -- and what was refused had more
+    refused-ticks : (why : Refusal) → r .outcome ≡ Refused why → (mostTicks < n) × (why ≡ ManyTicks)
+    refused-ticks why o = go (decLe n mostTicks)
+      where
+        go : Dec (n ≤ mostTicks) → (mostTicks < n) × (why ≡ ManyTicks)
+        go (yes h) =
+            let z : Ran ≡ Refused why = sym (ap (λ (q : FullRun). q .outcome) e ∙ run-lines h .0) ∙ o in
+            absurd (let y : _≡_ {A = ℕ} 0 1 = cc in omega arith)
+        go (no h) =
+            let z : Refused ManyTicks ≡ Refused why = sym (ap (λ (q : FullRun). q .outcome) e ∙ run-refused (omega arith)) ∙ o in
+            (omega arith, (let w : why ≡ ManyTicks = cc in w))
 
-  -- its length stays within the limit
-  pub answer-short : length (answerTo (accepted t) n) ≤ longestRun
-  answer-short = table-fits t n (value-forth v ok .1)
+    -- the lines of a run that took place are its text, and no longer than that may be
+    pub ran-lines : r .outcome ≡ Ran → linesText (v .rows) (r .rows) (v .len) ≡ runText t n
+    ran-lines o = ap (λ (q : FullRun). linesText (v .rows) (q .rows) (v .len)) e ∙ run-lines (ran-ticks o) .1
 
--- what was read is answered
+    pub ran-short : r .outcome ≡ Ran → length (linesText (v .rows) (r .rows) (v .len)) ≤ longestRun
+    ran-short o = omega (arith, ap length (ran-lines o), run-fits t n (value-forth v ok .1) (ran-ticks o))
 
--- the outcome of a reading that was accepted, and its table
-pub read-accepted : (s : List ℕ) (n : ℕ) (r : Reading) → r ≡ readingOf (readText s) → r .outcome ≡ Accepted
-    → (wellFormed (r .table) ≡ true) × (runAnswer s n ≡ answerTo (accepted (tableOf (r .table))) n)
-unfolding runAnswer
-read-accepted s n r e o =
-    let a = reading-accepted s r e o in
-    (a .0, ap (λ (x : Answer). answerTo x n) (a .1))
+    -- the answer where it took place
+    pub answer-ran : r .outcome ≡ Ran → (d : List ℕ) → (ranIn (accepted t) n d ≡ lengthIn (runText t n) d) × (ranInto (accepted t) n d ≡ placed (runText t n) d)
+    answer-ran o d = let l = le-ltb mostTicks n (ran-ticks o) in (if-false _ _ l, if-false _ _ l)
 
--- and of one that was refused
-pub read-refused : (s : List ℕ) (n : ℕ) (r : Reading) (x : Refusal) → r ≡ readingOf (readText s) → r .outcome ≡ RefusedText x → runAnswer s n ≡ refusedLine x
-unfolding runAnswer
-read-refused s n r x e o = ap (λ (y : Answer). answerTo y n) (reading-refused s r x e o)
+    -- and where it was refused
+    pub answer-refused : (why : Refusal) → r .outcome ≡ Refused why → (d : List ℕ) → (ranIn (accepted t) n d ≡ WrittenRefused why) × (ranInto (accepted t) n d ≡ d)
+    answer-refused why o d =
+        let p = refused-ticks why o in
+        let l = lt-ltb mostTicks n (p .0) in
+        (if-true _ _ l ∙ ap WrittenRefused (sym (p .1)), if-true _ _ l)

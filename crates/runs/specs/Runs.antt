@@ -7,14 +7,17 @@ use lib.ListN.{length}
 use Rattle.words.specs.Choice.{if_then_else_}
 use Rattle.words.specs.Lists.{below}
 use Rattle.words.specs.Spelled.{spelled}
+use Rattle.words.specs.Buffer.{placed}
 use Rattle.decimal.specs.Decimal.{digits}
 use Rattle.fields.specs.Fields.{line, joined}
 use Rattle.refusals.specs.declared.Refusal.the-variants.{ManyTicks}
 use Rattle.table.specs.Limits.{mostRows, longestName, mostTicks}
 use Rattle.table.specs.Paper.{Row, Table, rowAt}
-use Rattle.text.specs.Read.{Answer, accepted, refused, readText}
+use Rattle.text.specs.declared.Written.{Written}
+use Rattle.text.specs.declared.Written.the-variants.{Refused}
+use Rattle.text.specs.Read.{Answer, accepted, refused}
+use Rattle.text.specs.Write.{lengthIn}
 use Rattle.kernel.specs.Completion.{completion}
-use Rattle.refused.specs.Refused.{refusedLine}
 
 -- the instant of a completion; a hyphen where the job isn't complete
 abbrev pub instantText : Option ℕ → List ℕ
@@ -29,19 +32,20 @@ runLine r c = line (r .name) (instantText c ∷ [])
 unfoldable pub runText : Table → ℕ → List ℕ
 runText t n = joined (map (λ k. runLine (rowAt t k) (completion (rowAt t) k n)) (below (length t)))
 
--- the answer to what was read: 23, else the run
-abbrev pub answerTo : Answer → ℕ → List ℕ
-answerTo (accepted t) n = if ltb mostTicks n then refusedLine ManyTicks else runText t n
-answerTo (refused why) n = refusedLine why
+-- what was read is run in a lent buffer: the text's refusal, then 23, then 22, else the length
+abbrev pub ranIn : Answer → ℕ → List ℕ → Written
+ranIn (accepted t) n d = if ltb mostTicks n then Refused ManyTicks else lengthIn (runText t n) d
+ranIn (refused why) n d = Refused why
 
--- the whole answer to a text and a number of ticks
-unfoldable pub runAnswer : List ℕ → ℕ → List ℕ
-runAnswer s n = answerTo (readText s) n
+-- the buffer afterwards: unchanged after a refusal
+abbrev pub ranInto : Answer → ℕ → List ℕ → List ℕ
+ranInto (accepted t) n d = if ltb mostTicks n then d else placed (runText t n) d
+ranInto (refused why) n d = d
 
 -- a line has a name, an instant of up to 7 digits, and 2 bytes that end them
 abbrev pub longestLine : ℕ
 longestLine = longestName + 7 + 2
 
--- no answer is longer
+-- no run's text is longer
 abbrev pub longestRun : ℕ
 longestRun = mostRows * longestLine

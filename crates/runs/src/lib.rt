@@ -8,9 +8,8 @@ ghost use Rattle.words.specs.Buffer.{over, placed, fitted};
 ghost use Rattle.fields.specs.Fields.{tab, line};
 ghost use Rattle.table.specs.Limits.{mostRows};
 ghost use Rattle.table.specs.Value.{rowOf, tableOf, wellFormed};
-ghost use Rattle.text.specs.Read.{accepted};
-ghost use Rattle.text.specs.Write.{lengthIn};
-ghost use Rattle.runs.specs.Runs.{answerTo, runAnswer, longestRun};
+ghost use Rattle.text.specs.Read.{accepted, readText};
+ghost use Rattle.runs.specs.Runs.{ranIn, ranInto, longestRun};
 ghost use Rattle.runs.specs.Parts.{firstText, linesText};
 use fields::LINE_FEED;
 use machine::First;
@@ -21,7 +20,7 @@ use table::Table;
 use text::Outcome;
 use text::Written;
 
-// The most bytes of an answer: 21 for each row's line.
+// The most bytes of a run's text: 21 for each row's line.
 pub const LONGEST: usize = Table::ROWS * 21;
 
 // A tab and a completion.
@@ -105,15 +104,15 @@ fn lines_len(table: Table, run: FullRun) -> usize
     len
 }
 
-// The run of a well-formed table, or the line of 23, or 22: the whole length is known before the first byte is written.
+// The run of a well-formed table, or 23, or 22: the whole length is known before the first byte is written.
 fn write_run(table: Table, ticks: u64, out: &mut [u8]) -> Written
     requires { ⌜ wellFormed table ≡ true ⌝ }
-    ensures { λ r. ⌜ (r ≡ lengthIn (answerTo (accepted (tableOf table)) ticks) (now (out .entry))) × (now (out .exit) ≡ placed (answerTo (accepted (tableOf table)) ticks) (now (out .entry))) ⌝ }
+    ensures { λ r. ⌜ (r ≡ ranIn (accepted (tableOf table)) ticks (now (out .entry))) × (now (out .exit) ≡ ranInto (accepted (tableOf table)) ticks (now (out .entry))) ⌝ }
 {
     let run = machine::full_run(table, ticks);
     let outcome = run.outcome;
     match outcome {
-        machine::Outcome::Refused(why) => refused::write(why, out),
+        machine::Outcome::Refused(why) => Written::Refused(why),
         machine::Outcome::Ran => {
             if out.len() < lines_len(table, run) {
                 return Written::Refused(Refusal::NoRoom);
@@ -123,14 +122,14 @@ fn write_run(table: Table, ticks: u64, out: &mut [u8]) -> Written
     }
 }
 
-// Writes the whole answer to a text and a number of ticks, that is the run or the line of a refusal, or nothing.
+// Writes the full run of a text, or nothing: the text's refusal, then 23, then 22.
 pub fn answer(text: &[u8], ticks: u64, out: &mut [u8]) -> Written
-    ensures { λ r. ⌜ (r ≡ lengthIn (runAnswer (now (text .entry)) ticks) (now (out .entry))) × (now (out .exit) ≡ placed (runAnswer (now (text .entry)) ticks) (now (out .entry))) ⌝ }
+    ensures { λ r. ⌜ (r ≡ ranIn (readText (now (text .entry))) ticks (now (out .entry))) × (now (out .exit) ≡ ranInto (readText (now (text .entry))) ticks (now (out .entry))) ⌝ }
 {
     let reading = text::read(text);
     let outcome = reading.outcome;
     match outcome {
         Outcome::Accepted => write_run(reading.table, ticks, out),
-        Outcome::Refused(why) => refused::write(why, out),
+        Outcome::Refused(why) => Written::Refused(why),
     }
 }

@@ -2,7 +2,7 @@
 ghost use mathlib.Core.Path.{_≡_};
 ghost use Prim.Native.Nat.{ℕ, _<_};
 ghost use Rattle.io.specs.Counts.{Counts};
-use libc::STDIN_FILENO;
+use input::Input;
 
 // What comes next in the stream.
 pub enum Item {
@@ -12,6 +12,8 @@ pub enum Item {
     Over,
     // An item is longer than the buffer, or the input ended within it.
     Broken,
+    // A read failed, and standard error says so.
+    Failed,
 }
 
 fn wide(byte: u8) -> usize
@@ -20,24 +22,40 @@ fn wide(byte: u8) -> usize
     byte as usize
 }
 
+// The bytes of an item: as many as the buffer has room for.
+fn body(buf: &mut [u8]) -> Item
+    ensures { λ r. ⌜ ((n : ℕ) → r ≡ Item.Bytes n → Counts n (now (buf .exit))) ⌝ }
+{
+    match input::read_whole(buf) {
+        Input::Bytes(got) => {
+            if got < buf.len() {
+                return Item::Broken;
+            }
+            Item::Bytes(got)
+        }
+        Input::Failed => Item::Failed,
+    }
+}
+
 // Takes the next item out of the stream.
 pub fn next(buf: &mut [u8]) -> Item
     ensures { λ r. ⌜ ((n : ℕ) → r ≡ Item.Bytes n → Counts n (now (buf .exit))) ⌝ }
 {
     let mut head = [0u8; 2];
-    let got = io::read_full(STDIN_FILENO, &mut head);
-    if got == 0 {
-        return Item::Over;
+    match input::read_whole(&mut head) {
+        Input::Bytes(got) => {
+            if got == 0 {
+                return Item::Over;
+            }
+            if got < 2 {
+                return Item::Broken;
+            }
+            let len = wide(head[0]) * 256 + wide(head[1]);
+            if buf.len() < len {
+                return Item::Broken;
+            }
+            body(&mut buf[..len])
+        }
+        Input::Failed => Item::Failed,
     }
-    if got < 2 {
-        return Item::Broken;
-    }
-    let len = wide(head[0]) * 256 + wide(head[1]);
-    if buf.len() < len {
-        return Item::Broken;
-    }
-    if io::read_full(STDIN_FILENO, &mut buf[..len]) < len {
-        return Item::Broken;
-    }
-    Item::Bytes(len)
 }

@@ -1,5 +1,4 @@
 // Table values, each right or with a single rule broken, and what the test of a table value says of them.
-use libc::STDOUT_FILENO;
 use table::Row;
 use table::Table;
 use ticks::Length;
@@ -62,27 +61,38 @@ fn table_a() -> Table {
     below(below(one(pulse()), row(name(b"radio"), 25, 20, 5)), save())
 }
 
-// Prints a line: what the value is, and whether it is right.
-fn say(what: &[u8], t: Table) {
-    io::write_all(STDOUT_FILENO, what);
-    if rules::well_formed(t) {
-        io::write_all(STDOUT_FILENO, b"\tright\n");
-    } else {
-        io::write_all(STDOUT_FILENO, b"\t20\n");
+// Writes a part of a line, and says whether all of it was written.
+fn put(part: &[u8]) -> bool {
+    output::put(part) == part.len()
+}
+
+// Prints a line, what the value is and whether it is right, unless a write failed before; says whether none failed.
+fn say(before: bool, what: &[u8], t: Table) -> bool {
+    if !before {
+        return false;
     }
+    if !put(what) {
+        return false;
+    }
+    if rules::well_formed(t) {
+        return put(b"\tright\n");
+    }
+    put(b"\t20\n")
 }
 
 // The number of rows, and what stands in those that are not used.
-fn counts() {
-    say(b"no row", Table::empty());
+fn counts(before: bool) -> bool {
+    let mut ok = before;
+    ok = say(ok, b"no row", Table::empty());
     let mut t = table_a();
-    say(b"three rows", t);
+    ok = say(ok, b"three rows", t);
     t.len = 2;
-    say(b"a third row that is not counted", t);
+    ok = say(ok, b"a third row that is not counted", t);
     t.len = 4;
-    say(b"a fourth row that is all zero", t);
+    ok = say(ok, b"a fourth row that is all zero", t);
     t.len = 17;
-    say(b"17 rows", t);
+    ok = say(ok, b"17 rows", t);
+    ok
 }
 
 // Sixteen rows with names of one byte, a to p.
@@ -97,70 +107,95 @@ fn sixteen() -> Table {
 }
 
 // The bytes of a name.
-fn names() {
-    say(
+fn names(before: bool) -> bool {
+    let mut ok = before;
+    ok = say(
+        ok,
         b"a name of 12 bytes",
         one(row(name(b"az09-a-z0-99"), 10, 10, 2)),
     );
-    say(b"a name of one hyphen", one(row(name(b"-"), 10, 10, 2)));
-    say(b"no name", one(row(name(b""), 10, 10, 2)));
-    say(b"a capital letter", one(row(name(b"Pulse"), 10, 10, 2)));
-    say(b"a byte below 0", one(row(name(b"pulse/"), 10, 10, 2)));
-    say(b"a byte above 9", one(row(name(b"pulse:"), 10, 10, 2)));
-    say(b"a byte below a", one(row(name(b"pulse`"), 10, 10, 2)));
-    say(b"a byte above z", one(row(name(b"{}"), 10, 10, 2)));
-    say(
+    ok = say(ok, b"a name of one hyphen", one(row(name(b"-"), 10, 10, 2)));
+    ok = say(ok, b"no name", one(row(name(b""), 10, 10, 2)));
+    ok = say(ok, b"a capital letter", one(row(name(b"Pulse"), 10, 10, 2)));
+    ok = say(ok, b"a byte below 0", one(row(name(b"pulse/"), 10, 10, 2)));
+    ok = say(ok, b"a byte above 9", one(row(name(b"pulse:"), 10, 10, 2)));
+    ok = say(ok, b"a byte below a", one(row(name(b"pulse`"), 10, 10, 2)));
+    ok = say(ok, b"a byte above z", one(row(name(b"{}"), 10, 10, 2)));
+    ok = say(
+        ok,
         b"a byte behind the name",
         one(row(name(b"pulse\0x"), 10, 10, 2)),
     );
-    say(b"a name twice", below(one(pulse()), pulse()));
-    say(
+    ok = say(ok, b"a name twice", below(one(pulse()), pulse()));
+    ok = say(
+        ok,
         b"a name longer by one byte",
         below(one(pulse()), row(name(b"pulse1"), 10, 10, 2)),
     );
+    ok
 }
 
 // T, D and the times.
-fn numbers() {
+fn numbers(before: bool) -> bool {
+    let mut ok = before;
     let n = name(b"pulse");
-    say(b"all 1", one(row(n, 1, 1, 1)));
-    say(b"all 1000000", one(row(n, 1_000_000, 1_000_000, 1_000_000)));
-    say(b"T 1000001", one(row(n, 1_000_001, 10, 2)));
-    say(b"T 0", one(row(n, 0, 10, 2)));
-    say(b"D 0", one(row(n, 10, 0, 2)));
-    say(b"D above T", one(row(n, 10, 11, 2)));
-    say(b"C 0", one(row(n, 10, 10, 0)));
-    say(b"C equal to D", one(row(n, 10, 7, 7)));
-    say(b"C above D", one(row(n, 10, 7, 8)));
-    say(
+    ok = say(ok, b"all 1", one(row(n, 1, 1, 1)));
+    ok = say(
+        ok,
+        b"all 1000000",
+        one(row(n, 1_000_000, 1_000_000, 1_000_000)),
+    );
+    ok = say(ok, b"T 1000001", one(row(n, 1_000_001, 10, 2)));
+    ok = say(ok, b"T 0", one(row(n, 0, 10, 2)));
+    ok = say(ok, b"D 0", one(row(n, 10, 0, 2)));
+    ok = say(ok, b"D above T", one(row(n, 10, 11, 2)));
+    ok = say(ok, b"C 0", one(row(n, 10, 10, 0)));
+    ok = say(ok, b"C equal to D", one(row(n, 10, 7, 7)));
+    ok = say(ok, b"C above D", one(row(n, 10, 7, 8)));
+    ok = say(
+        ok,
         b"C and S equal to D",
         one(waiting(row(n, 40, 30, 4), 20, 6)),
     );
-    say(b"C and S above D", one(waiting(row(n, 40, 29, 4), 20, 6)));
-    say(
+    ok = say(
+        ok,
+        b"C and S above D",
+        one(waiting(row(n, 40, 29, 4), 20, 6)),
+    );
+    ok = say(
+        ok,
         b"times that pass 64 bits",
         one(waiting(row(n, 40, 30, 4), 18_446_744_073_709_551_615, 6)),
     );
+    ok
 }
 
 // The order of the times, and who may wait.
-fn waits() {
-    say(
+fn waits(before: bool) -> bool {
+    let mut ok = before;
+    ok = say(
+        ok,
         b"two times",
         one(waiting(row(name(b"pulse"), 100, 60, 4), 20, 0)),
     );
-    say(
+    ok = say(
+        ok,
         b"a time behind a zero",
         one(waiting(row(name(b"pulse"), 100, 60, 4), 0, 6)),
     );
-    say(b"a waiting row alone", one(save()));
-    say(b"a waiting row above another", below(one(save()), pulse()));
+    ok = say(ok, b"a waiting row alone", one(save()));
+    ok = say(
+        ok,
+        b"a waiting row above another",
+        below(one(save()), pulse()),
+    );
+    ok
 }
 
 fn main() {
-    counts();
-    say(b"16 rows", sixteen());
-    names();
-    numbers();
-    waits();
+    let mut ok = counts(true);
+    ok = say(ok, b"16 rows", sixteen());
+    ok = names(ok);
+    ok = numbers(ok);
+    waits(ok);
 }

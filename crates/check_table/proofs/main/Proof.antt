@@ -15,20 +15,23 @@ enum-known-len c = search needs
 array-share-prefix-text : tie.Need-array-share-prefix-text
 array-share-prefix-text c = c .before .before .before .before .read-whole .ensures _ (c .before .len .given .1) .0
 
-slice-aggregate-put-report : tie.Need-slice-aggregate-put-report
-slice-aggregate-put-report c = c .before .before .before .before .before .read-whole .ensures _ (c .before .before .len .given .1) .1
+slice-aggregate-report-of : tie.Need-slice-aggregate-report-of
+slice-aggregate-report-of c = c .before .before .before .before .before .read-whole .ensures _ (c .before .before .len .given .1) .1
 
-put-report-requires : tie.Need-put-report-requires
-put-report-requires c κs = search needs
+report-of-requires : tie.Need-report-of-requires
+report-of-requires c κs = search needs
+
+array-share-prefix-out : tie.Need-array-share-prefix-out
+array-share-prefix-out c = search needs
+
+slice-aggregate-put : tie.Need-slice-aggregate-put
+slice-aggregate-put c = search needs
+
+put-requires : tie.Need-put-requires
+put-requires c κs = search needs
 
 enum-told : tie.Need-enum-told
 enum-told c = search needs
-
-slice-aggregate-write-all : tie.Need-slice-aggregate-write-all
-slice-aggregate-write-all c = search needs
-
-write-all-requires : tie.Need-write-all-requires
-write-all-requires c κs = search needs
 
 returns : tie.Need-returns
 returns c = search needs
@@ -44,10 +47,11 @@ main-spec =
     read-whole-requires
     enum-known-len
     array-share-prefix-text
-    slice-aggregate-put-report
-    put-report-requires
+    slice-aggregate-report-of
+    report-of-requires
+    array-share-prefix-out
+    slice-aggregate-put
+    put-requires
     enum-told
-    slice-aggregate-write-all
-    write-all-requires
     returns
     returns-2)

@@ -15,20 +15,23 @@ enum-known-len c = search needs
 array-share-prefix-text : tie.Need-array-share-prefix-text
 array-share-prefix-text c = c .before .before .before .before .read-whole .ensures _ (c .before .len .given .1) .0
 
-slice-aggregate-put-run : tie.Need-slice-aggregate-put-run
-slice-aggregate-put-run c = c .before .before .before .before .before .read-whole .ensures _ (c .before .before .len .given .1) .1
+slice-aggregate-run-of : tie.Need-slice-aggregate-run-of
+slice-aggregate-run-of c = c .before .before .before .before .before .read-whole .ensures _ (c .before .before .len .given .1) .1
 
-put-run-requires : tie.Need-put-run-requires
-put-run-requires c κs = search needs
+run-of-requires : tie.Need-run-of-requires
+run-of-requires c κs = search needs
+
+array-share-prefix-out : tie.Need-array-share-prefix-out
+array-share-prefix-out c = search needs
+
+slice-aggregate-put : tie.Need-slice-aggregate-put
+slice-aggregate-put c = search needs
+
+put-requires : tie.Need-put-requires
+put-requires c κs = search needs
 
 enum-told : tie.Need-enum-told
 enum-told c = search needs
-
-slice-aggregate-say : tie.Need-slice-aggregate-say
-slice-aggregate-say c = search needs
-
-say-requires : tie.Need-say-requires
-say-requires c κs = search needs
 
 returns : tie.Need-returns
 returns c = search needs
@@ -44,10 +47,11 @@ run-spec =
     read-whole-requires
     enum-known-len
     array-share-prefix-text
-    slice-aggregate-put-run
-    put-run-requires
+    slice-aggregate-run-of
+    run-of-requires
+    array-share-prefix-out
+    slice-aggregate-put
+    put-requires
     enum-told
-    slice-aggregate-say
-    say-requires
     returns
     returns-2)

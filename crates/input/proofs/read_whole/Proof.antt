@@ -12,10 +12,10 @@ use Rattle.input.proofs.read_whole.Statement.{statement}
 use Rattle.input.proofs.read_whole.Tie as tie
 
 abbrev Inv-loop : tie.InvT-loop
-Inv-loop buf₀ at₀ buf at = (at ≤ length buf) × (length buf ≡ length buf₀)
+Inv-loop buf₀ at₀ t buf at = (at ≤ length buf) × (length buf ≡ length buf₀)
 
 abbrev μ-loop : tie.MeasureT-loop
-μ-loop buf₀ at₀ buf at = length buf₀ - at
+μ-loop buf₀ at₀ t buf at = length buf₀ - at
 
 -- what was counted lies within
 counts : (n m : ℕ) (x : List ℕ) → Bytes m ≡ Bytes n → m ≤ length x → (n ≤ length x) × (n ≡ length (take n x))
@@ -47,6 +47,12 @@ part-read-end c = search needs
 
 read-requires : tie.Need-read-requires Inv-loop μ-loop
 read-requires c κs = search needs
+
+slice-aggregate-say : tie.Need-slice-aggregate-say Inv-loop μ-loop
+slice-aggregate-say c = search needs
+
+say-requires : tie.Need-say-requires Inv-loop μ-loop
+say-requires c κs = search needs
 
 same-length : tie.Need-same-length Inv-loop μ-loop
 same-length c = search needs
@@ -99,6 +105,8 @@ read-whole-spec =
     part-read-start
     part-read-end
     read-requires
+    slice-aggregate-say
+    say-requires
     same-length
     returns
     sub-count

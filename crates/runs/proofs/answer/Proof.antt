@@ -1,5 +1,6 @@
 -- `answer` meets its contract.
-use Rattle.runs.proofs.Tables.{read-accepted, read-refused}
+use mathlib.Core.Path.{refl}
+use Rattle.text.proofs.Back.{reading-accepted, reading-refused}
 use borrow.Author.Needs.{needs}
 use Rattle.runs.proofs.answer.Statement.{statement}
 use Rattle.runs.proofs.answer.Tie as tie
@@ -11,25 +12,28 @@ enum-told : tie.Need-enum-told
 enum-told c = search needs
 
 write-run-requires : tie.Need-write-run-requires
-write-run-requires c κs = read-accepted (c .before .before .before .before .before .before .args .text .now) (c .before .before .before .before .before .before .args .ticks) (c .before .before .before .read .result) (c .before .before .before .read .ensures) (c .before .enum-told .given .1) .0
+write-run-requires c κs =
+    let r = c .before .before .before .read in
+    let s = c .before .before .before .before .before .before in
+    reading-accepted (s .args .text .now) (r .result) (r .ensures) (c .before .enum-told .given .1) .0
 
 enum-known-outcome : tie.Need-enum-known-outcome
 enum-known-outcome c = search needs
-
-write-requires : tie.Need-write-requires
-write-requires c κs = search needs
 
 same-length : tie.Need-same-length
 same-length c = search needs
 
 returns : tie.Need-returns
-returns c = rw (read-accepted (c .before .before .before .before .before .before .before .before .before .args .text .now) (c .before .before .before .before .before .before .before .before .before .args .ticks) (c .before .before .before .before .before .before .read .result) (c .before .before .before .before .before .before .read .ensures) (c .before .before .before .before .enum-told .given .1) .1) (c .before .before .write-run .ensures)
-
-same-length-2 : tie.Need-same-length-2
-same-length-2 c = search needs
+returns c =
+    let r = c .before .before .before .before .before .before .read in
+    let s = c .before .before .before .before .before .before .before .before .before in
+    rw (reading-accepted (s .args .text .now) (r .result) (r .ensures) (c .before .before .before .before .enum-told .given .1) .1) (c .before .before .write-run .ensures)
 
 returns-2 : tie.Need-returns-2
-returns-2 c = rw (read-refused (c .before .before .before .before .before .before .before .before .before .before .args .text .now) (c .before .before .before .before .before .before .before .before .before .before .args .ticks) (c .before .before .before .before .before .before .before .read .result) _ (c .before .before .before .before .before .before .before .read .ensures) (c .before .before .before .before .before .outcome .given .1)) (c .before .before .write .ensures)
+returns-2 c =
+    let r = c .before .before .before .read in
+    let s = c .before .before .before .before .before .before in
+    rw (reading-refused (s .args .text .now) (r .result) _ (r .ensures) (c .before .outcome .given .1)) (refl, refl)
 
 pub answer-spec : {M : Type 1} → statement M
 answer-spec =
@@ -39,8 +43,6 @@ answer-spec =
     enum-told
     write-run-requires
     enum-known-outcome
-    write-requires
     same-length
     returns
-    same-length-2
     returns-2)

@@ -1,14 +1,16 @@
 -- `write_lines` meets its contract: after each turn the lines so far stand at the front.
-use mathlib.Core.Path.{_≡_}
+use mathlib.Core.Path.{_≡_, sym, ap, _∙_}
 use Prim.Native.Nat.{_+_, _-_, _≤_}
 use native.Mathlib.Omega.{arith}
 use native.Mathlib.Nat.{le-antisymm}
-use lib.ListN.{length}
+use lib.ListN.{length, length-map}
 use Rattle.words.specs.Lists.{below}
 use Rattle.words.proofs.Put.{Put, put-none, put-part, put-within, put-room}
 use Rattle.fields.specs.Fields.{joined}
 use Rattle.fields.proofs.Lines.{joined-next, joined-room}
+use Rattle.table.specs.Limits.{mostRows}
 use Rattle.runs.specs.Parts.{lineAt, linesText}
+use Rattle.runs.proofs.Tables.{readAt, line-read}
 use borrow.Author.Needs.{needs}
 use Rattle.runs.proofs.write_lines.Statement.{statement}
 use Rattle.runs.proofs.write_lines.Tie as tie
@@ -19,13 +21,26 @@ Inv-loop out₀ rows slots n at₀ i₀ out at i = (i ≤ n) × Put (linesText r
 abbrev μ-loop : tie.MeasureT-loop
 μ-loop out₀ rows slots n at₀ i₀ out at i = n - i
 
+-- in a turn, the line that is read is the next one
+read : (c : tie.In-loop Inv-loop μ-loop)
+    → let a = c .before .before .before .before .before .args in
+    let i = c .before .loop .i in
+    readAt (a .table .rows) (a .run .rows) i ≡ lineAt (a .table .rows) (a .run .rows) i
+read c =
+    let s = c .before .before .before .before .before in
+    let n : length (s .args .run .rows) ≡ mostRows = sym (length-map (s .args .run .rows) _) ∙ s .good .1 .0 .1 .1 .1 .0 .1 .0 .1 in
+    line-read (s .args .table .rows) (s .args .run .rows) (c .before .loop .i) (omega (arith, s .pre .0, c .loop-test .taken))
+
 -- in a turn there is room for the next line
 turn : (c : tie.After-slot Inv-loop μ-loop)
     → let a = c .before .before .before .before .before .before .before .args in
-    length (linesText (a .table .rows) (a .run .rows) (c .before .before .before .loop .i)) + length (lineAt (a .table .rows) (a .run .rows) (c .before .before .before .loop .i)) ≤ length (a .out .now)
+    let i = c .before .before .before .loop .i in
+    length (linesText (a .table .rows) (a .run .rows) i) + length (readAt (a .table .rows) (a .run .rows) i) ≤ length (a .out .now)
 turn c =
-    let a = c .before .before .before .before .before .before .before .args in
-    omega (arith, c .before .before .before .before .before .before .before .pre .1, joined-room (lineAt (a .table .rows) (a .run .rows)) (a .table .len) (c .before .before .before .loop .i) (c .before .before .loop-test .taken))
+    let s = c .before .before .before .before .before .before .before in
+    let t = s .args .table in
+    let room = joined-room (lineAt (t .rows) (s .args .run .rows)) (t .len) (c .before .before .before .loop .i) (c .before .before .loop-test .taken) in
+    omega (arith, s .pre .1, room, ap length (read (c .before .before)))
 
 loop-holds : tie.Need-loop-holds Inv-loop μ-loop
 unfolding joined below
@@ -67,7 +82,11 @@ loop-less c = omega (arith, c .before .before .before .before .before .before .l
 loop-again : tie.Need-loop-again Inv-loop μ-loop
 loop-again c =
     let a = c .before .before .before .before .before .before .before .before .before .before .before .args in
-    (omega (arith, c .before .before .before .before .before .before .loop-test .taken), rw (joined-next (lineAt (a .table .rows) (a .run .rows)) (c .before .before .before .before .before .before .before .loop .i)) (put-part _ _ _ (c .before .before .before .before .before .before .before .loop .inv .1) (turn (c .before .before .before .before)) (c .before .before .write-row .ensures)))
+    let l = c .before .before .before .before .before .before .before .loop in
+    let p = put-part _ _ _ (l .inv .1) (turn (c .before .before .before .before)) (c .before .before .write-row .ensures) in
+    let e = read (c .before .before .before .before .before .before) in
+    let q = rw e at p in
+    (omega (arith, c .before .before .before .before .before .before .loop-test .taken), rw (joined-next (lineAt (a .table .rows) (a .run .rows)) (l .i)) q)
 
 same-length : tie.Need-same-length Inv-loop μ-loop
 same-length c = c .before .loop .inv .1 .kept

@@ -8,30 +8,31 @@ use Rattle.words.specs.Buffer.{over}
 use Rattle.words.proofs.Buffer.{placed-fits, placed-short}
 use Rattle.table.specs.Value.{tableOf}
 use Rattle.text.specs.declared.Written.the-variants.{Bytes}
-use Rattle.text.specs.Read.{accepted}
 use Rattle.text.proofs.Writer.{length-short, length-whole}
 use Rattle.table.proofs.Used.{len-most}
-use Rattle.runs.specs.Runs.{answerTo}
+use Rattle.runs.specs.Runs.{runText}
 use Rattle.runs.specs.Parts.{linesText}
-use Rattle.runs.proofs.Tables.{answer-ran, answer-refused, answer-short}
+use Rattle.runs.proofs.Tables.{ran-lines, ran-short, answer-ran, answer-refused}
 use borrow.Author.Needs.{needs}
 use Rattle.runs.proofs.write_run.Statement.{statement}
 use Rattle.runs.proofs.write_run.Tie as tie
 
--- the buffer as the call begins, and the answer
-abbrev bufS : tie.Start → List ℕ
-bufS s = s .args .out .now
+-- the run's text
+abbrev textS : tie.Start → List ℕ
+textS s = runText (tableOf (s .args .table)) (s .args .ticks)
 
-abbrev answerS : tie.Start → List ℕ
-answerS s = answerTo (accepted (tableOf (s .args .table))) (s .args .ticks)
-
--- where the run took place it is its lines
-lines-are : (c : tie.After-enum-told) → answerS (c .before .before .before .before) ≡ linesText (c .before .before .before .before .args .table .rows) (c .before .before .full-run .result .rows) (c .before .before .before .before .args .table .len)
-lines-are c = answer-ran (c .before .before .before .before .args .table) (c .before .before .before .before .pre) (c .before .before .before .before .args .ticks) (c .before .before .full-run .result) (c .before .before .full-run .ensures) (c .enum-told .given .1)
+-- where the run took place its lines are that
+lines-are : (c : tie.After-enum-told)
+    → let a = c .before .before .before .before .args in
+    linesText (a .table .rows) (c .before .before .full-run .result .rows) (a .table .len) ≡ textS (c .before .before .before .before)
+lines-are c =
+    let s = c .before .before .before .before in
+    let f = c .before .before .full-run in
+    ran-lines (s .args .table) (s .pre) (s .args .ticks) (f .result) (f .ensures) (c .enum-told .given .1)
 
 -- the length, as it was measured
-measured : (c : tie.After-lines-len) → c .lines-len .result ≡ length (answerS (c .before .before .before .before .before))
-measured c = c .lines-len .ensures ∙ ap length (sym (lines-are (c .before)))
+measured : (c : tie.After-lines-len) → c .lines-len .result ≡ length (textS (c .before .before .before .before .before))
+measured c = c .lines-len .ensures ∙ ap length (lines-are (c .before))
 
 full-run-requires : tie.Need-full-run-requires
 full-run-requires c κs = search needs
@@ -39,44 +40,54 @@ full-run-requires c κs = search needs
 enum-known-outcome : tie.Need-enum-known-outcome
 enum-known-outcome c = search needs
 
-write-requires : tie.Need-write-requires
-write-requires c κs = search needs
-
 enum-told : tie.Need-enum-told
 enum-told c = search needs
 
 lines-len-requires : tie.Need-lines-len-requires
 lines-len-requires c κs =
     let s = c .before .before .before .before in
-    (len-most (s .args .table) (s .pre), omega (arith, ap length (lines-are c), answer-short (s .args .table) (s .pre) (s .args .ticks)))
+    let f = c .before .before .full-run in
+    (len-most (s .args .table) (s .pre), ran-short (s .args .table) (s .pre) (s .args .ticks) (f .result) (f .ensures) (c .enum-told .given .1))
 
 returns : tie.Need-returns
 returns c =
-    let l = answerS (c .before .before .before .before .before .before) in
-    let d = bufS (c .before .before .before .before .before .before) in
+    let s = c .before .before .before .before .before .before in
+    let f = c .before .before .before .before .full-run in
+    let l = textS s in
+    let d = s .args .out .now in
     let h : length d < length l = omega (arith, measured (c .before), c .if1 .taken) in
-    (sym (length-short l d h), sym (placed-short l d h))
+    let p = answer-ran (s .args .table) (s .pre) (s .args .ticks) (f .result) (f .ensures) (c .before .before .enum-told .given .1) d in
+    (sym (p .0 ∙ length-short l d h), sym (p .1 ∙ placed-short l d h))
 
 write-lines-requires : tie.Need-write-lines-requires
-write-lines-requires c κs = (len-most (c .before .before .before .before .before .before .before .args .table) (c .before .before .before .before .before .before .before .pre), omega (arith, c .before .before .lines-len .ensures, c .before .if1 .left))
+write-lines-requires c κs =
+    let s = c .before .before .before .before .before .before .before in
+    (len-most (s .args .table) (s .pre), omega (arith, c .before .before .lines-len .ensures, c .before .if1 .left))
+
+returns-2 : tie.Need-returns-2
+returns-2 c =
+    let s = c .before .before .before .before .before in
+    let f = c .before .before .before .full-run in
+    let p = answer-refused (s .args .table) (s .pre) (s .args .ticks) (f .result) (f .ensures) _ (c .before .outcome .given .1) (s .args .out .now) in
+    (sym (p .0), sym (p .1))
 
 same-length : tie.Need-same-length
 same-length c = search needs
 
-returns-2 : tie.Need-returns-2
-returns-2 c = rw (answer-refused (c .before .before .before .before .before .before .before .before .before .args .table) (c .before .before .before .before .before .before .before .before .before .pre) (c .before .before .before .before .before .before .before .before .before .args .ticks) (c .before .before .before .before .before .before .before .full-run .result) _ (c .before .before .before .before .before .before .before .full-run .ensures) (c .before .before .before .before .before .outcome .given .1)) (c .before .before .write .ensures)
-
-same-length-2 : tie.Need-same-length-2
-same-length-2 c = search needs
-
 returns-3 : tie.Need-returns-3
 returns-3 c =
-    let l = answerS (c .before .before .before .before .before .before .before .before .before .before) in
-    let d = bufS (c .before .before .before .before .before .before .before .before .before .before) in
+    let s = c .before .before .before .before .before .before .before .before .before .before in
+    let f = c .before .before .before .before .before .before .before .before .full-run in
+    let told = c .before .before .before .before .before .before in
+    let l = textS s in
+    let d = s .args .out .now in
     let h : length l ≤ length d = omega (arith, measured (c .before .before .before .before .before), c .before .before .before .before .if1 .left) in
-    let e = c .before .before .write-lines .ensures in
-    let p = sym (lines-are (c .before .before .before .before .before .before)) in
-    (ap Bytes (e .0 ∙ ap length p) ∙ sym (length-whole l d h), e .1 ∙ ap (λ (x : List ℕ). over x d) p ∙ sym (placed-fits l d h))
+    let w = c .before .before .write-lines .ensures in
+    let e = lines-are told in
+    let p = answer-ran (s .args .table) (s .pre) (s .args .ticks) (f .result) (f .ensures) (told .enum-told .given .1) d in (
+      ap Bytes (w .0 ∙ ap length e) ∙ sym (p .0 ∙ length-whole l d h),
+      w .1 ∙ ap (λ (x : List ℕ). over x d) e ∙ sym (p .1 ∙ placed-fits l d h),
+    )
 
 pub write-run-spec : {M : Type 1} → statement M
 write-run-spec =
@@ -84,12 +95,10 @@ write-run-spec =
     (tie.spec
     full-run-requires
     enum-known-outcome
-    write-requires
     enum-told
     lines-len-requires
     returns
     write-lines-requires
-    same-length
     returns-2
-    same-length-2
+    same-length
     returns-3)
