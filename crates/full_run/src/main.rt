@@ -1,4 +1,5 @@
-// The full run: the number of ticks is the argument, the table text comes from standard input; writes for each row its name and the completion instant of its first job.
+// The full run: the number of ticks is the argument, the table text comes from standard input; writes for each row its name and the
+// completion instant of its first job.
 use decimal::Number;
 use input::Input;
 use table::Table;

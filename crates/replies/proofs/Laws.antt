@@ -50,7 +50,8 @@ module _ (bs d x : List ℕ) (w : Written) (room : length bs ≤ length d) (e : 
 
 -- the run of a text in a buffer that has room for every answer
 
-module _ (s : List ℕ) (n : ℕ) (d x : List ℕ) (w : Written) (room : length d ≡ longestText) (e : w ≡ ranIn (readText s) n d) (p : x ≡ ranInto (readText s) n d) where
+module _ (s : List ℕ) (n : ℕ) (d x : List ℕ) (w : Written) (room : length d ≡ longestText)
+    (e : w ≡ ranIn (readText s) n d) (p : x ≡ ranInto (readText s) n d) where
   -- the run was put there
   pub ran-bytes : (m : ℕ) → w ≡ Bytes m → (m ≡ length (runAnswer s n)) × (x ≡ over (runAnswer s n) d)
   unfolding runAnswer

@@ -58,7 +58,7 @@ pub fn report_of(text: &[u8], out: &mut [u8; LONGEST]) -> usize
     ensures { λ r. ⌜ Front r (now (out .exit)) ⌝ }
 {
     match report::answer(text, out) {
-        Written::Bytes(len) => len,
+        Written::Bytes(report_len) => report_len,
         Written::Refused(_) => 0,
     }
 }
@@ -69,7 +69,7 @@ pub fn run_of(text: &[u8], ticks: u64, out: &mut [u8; LONGEST]) -> usize
     ensures { λ r. ⌜ Front r (now (out .exit)) ⌝ }
 {
     match runs::answer(text, ticks, out) {
-        Written::Bytes(len) => len,
+        Written::Bytes(run_len) => run_len,
         Written::Refused(why) => line_of(why, out),
     }
 }

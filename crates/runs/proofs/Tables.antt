@@ -67,7 +67,8 @@ module _ (v : TableValue) (ok : wellFormed v ≡ true) (n : ℕ) where
   unfolding completions runLine
   line-is k h =
       ap (λ (r : Row). line (r .name) (firstText (getD (completions t n) k noSlot .first) ∷ [])) (row-is v ok k)
-      ∙ ap (λ (s : Slot). line (rowAt t k .name) (firstText (s .first) ∷ [])) (filled-at (λ i. slotOf (completion (rowAt t) i n)) (length t) _ noSlot k (omega (arith, len-is v ok)))
+      ∙ ap (λ (s : Slot). line (rowAt t k .name) (firstText (s .first) ∷ []))
+      (filled-at (λ i. slotOf (completion (rowAt t) i n)) (length t) _ noSlot k (omega (arith, len-is v ok)))
       ∙ ap (λ (l : List ℕ). line (rowAt t k .name) (l ∷ [])) (slot-text (completion (rowAt t) k n))
 
   lines-are : linesText (v .rows) (completions t n) (v .len) ≡ runText t n
@@ -114,11 +115,13 @@ module _ (v : TableValue) (ok : wellFormed v ≡ true) (n : ℕ) where
     ran-short o = omega (arith, ap length (ran-lines o), run-fits t n (value-forth v ok .1) (ran-ticks o))
 
     -- the answer where it took place
-    pub answer-ran : r .outcome ≡ Ran → (d : List ℕ) → (ranIn (accepted t) n d ≡ lengthIn (runText t n) d) × (ranInto (accepted t) n d ≡ placed (runText t n) d)
+    pub answer-ran : r .outcome ≡ Ran → (d : List ℕ)
+        → (ranIn (accepted t) n d ≡ lengthIn (runText t n) d) × (ranInto (accepted t) n d ≡ placed (runText t n) d)
     answer-ran o d = let l = le-ltb mostTicks n (ran-ticks o) in (if-false _ _ l, if-false _ _ l)
 
     -- and where it was refused
-    pub answer-refused : (why : Refusal) → r .outcome ≡ Refused why → (d : List ℕ) → (ranIn (accepted t) n d ≡ WrittenRefused why) × (ranInto (accepted t) n d ≡ d)
+    pub answer-refused : (why : Refusal) → r .outcome ≡ Refused why → (d : List ℕ)
+        → (ranIn (accepted t) n d ≡ WrittenRefused why) × (ranInto (accepted t) n d ≡ d)
     answer-refused why o d =
         let p = refused-ticks why o in
         let l = lt-ltb mostTicks n (p .0) in

@@ -46,7 +46,8 @@ fn first_len(first: First) -> usize
 // A row's line.
 fn write_row(row: Row, first: First, out: &mut [u8]) -> usize
     requires { ⌜ length (line (rowOf row .name) (firstText first ∷ [])) ≤ length (now out) ⌝ }
-    ensures { λ r. ⌜ (r ≡ length (line (rowOf row .name) (firstText first ∷ []))) × (now (out .exit) ≡ over (line (rowOf row .name) (firstText first ∷ [])) (now (out .entry))) ⌝ }
+    ensures { λ r. ⌜ (r ≡ length (line (rowOf row .name) (firstText first ∷ [])))
+        × (now (out .exit) ≡ over (line (rowOf row .name) (firstText first ∷ [])) (now (out .entry))) ⌝ }
 {
     let name = row.name;
     let len = row.name_len();
@@ -67,7 +68,8 @@ fn row_len(row: Row, first: First) -> usize
 // The lines of all rows.
 fn write_lines(table: Table, run: FullRun, out: &mut [u8]) -> usize
     requires { ⌜ (table .len ≤ mostRows) × (length (linesText (table .rows) (run .rows) (table .len)) ≤ length (now out)) ⌝ }
-    ensures { λ r. ⌜ (r ≡ length (linesText (table .rows) (run .rows) (table .len))) × (now (out .exit) ≡ over (linesText (table .rows) (run .rows) (table .len)) (now (out .entry))) ⌝ }
+    ensures { λ r. ⌜ (r ≡ length (linesText (table .rows) (run .rows) (table .len)))
+        × (now (out .exit) ≡ over (linesText (table .rows) (run .rows) (table .len)) (now (out .entry))) ⌝ }
 {
     let rows = table.rows;
     let slots = run.rows;
@@ -107,7 +109,8 @@ fn lines_len(table: Table, run: FullRun) -> usize
 // The run of a well-formed table, or 23, or 22: the whole length is known before the first byte is written.
 fn write_run(table: Table, ticks: u64, out: &mut [u8]) -> Written
     requires { ⌜ wellFormed table ≡ true ⌝ }
-    ensures { λ r. ⌜ (r ≡ ranIn (accepted (tableOf table)) ticks (now (out .entry))) × (now (out .exit) ≡ ranInto (accepted (tableOf table)) ticks (now (out .entry))) ⌝ }
+    ensures { λ r. ⌜ (r ≡ ranIn (accepted (tableOf table)) ticks (now (out .entry)))
+        × (now (out .exit) ≡ ranInto (accepted (tableOf table)) ticks (now (out .entry))) ⌝ }
 {
     let run = machine::full_run(table, ticks);
     let outcome = run.outcome;
@@ -124,7 +127,8 @@ fn write_run(table: Table, ticks: u64, out: &mut [u8]) -> Written
 
 // Writes the full run of a text, or nothing: the text's refusal, then 23, then 22.
 pub fn answer(text: &[u8], ticks: u64, out: &mut [u8]) -> Written
-    ensures { λ r. ⌜ (r ≡ ranIn (readText (now (text .entry))) ticks (now (out .entry))) × (now (out .exit) ≡ ranInto (readText (now (text .entry))) ticks (now (out .entry))) ⌝ }
+    ensures { λ r. ⌜ (r ≡ ranIn (readText (now (text .entry))) ticks (now (out .entry)))
+        × (now (out .exit) ≡ ranInto (readText (now (text .entry))) ticks (now (out .entry))) ⌝ }
 {
     let reading = text::read(text);
     let outcome = reading.outcome;

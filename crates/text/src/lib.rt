@@ -133,11 +133,11 @@ pub fn read(text: &[u8]) -> Reading
     if len == 0 {
         return refused(Refusal::NoText);
     }
+    let last = text[len - 1];
     if Table::TEXT < len {
         return refused(Refusal::LongText);
     }
-    let end = len - 1;
-    if text[end] != LINE_FEED {
+    if last != LINE_FEED {
         return refused(Refusal::NoLineFeed);
     }
     let mut table = Table::empty();

@@ -48,7 +48,7 @@ fn stop() {
             output::say(b"the stream has more than 100000 items\n");
         }
         Item::Broken => {
-            output::say(b"the stream has more than 100000 items\n");
+            broken();
         }
     }
 }

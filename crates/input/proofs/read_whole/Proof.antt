@@ -31,7 +31,9 @@ failed-none n e = let z : _≡_ {A = ℕ} 0 1 = cc in omega arith
 kept : (c : tie.After-slice-known2 Inv-loop μ-loop)
     → let l = c .before .before .before .before .before .loop in
     length (take (l .at) (l .buf) ++ (c .before .before .read .last .1 .0 ++ drop (length (l .buf) - l .at) (drop (l .at) (l .buf)))) ≡ length (l .buf)
-kept c = length-kept (c .before .before .before .before .before .loop .buf) (c .before .before .read .last .1 .0) (c .before .before .before .before .before .loop .at) (c .before .before .before .before .before .loop .inv .0) (c .before .before .read .kept .1 .0)
+kept c =
+    let l = c .before .before .before .before .before .loop in
+    length-kept (l .buf) (c .before .before .read .last .1 .0) (l .at) (l .inv .0) (c .before .before .read .kept .1 .0)
 
 loop-holds : tie.Need-loop-holds Inv-loop μ-loop
 loop-holds c = search needs
@@ -92,7 +94,8 @@ same-length-3 c = search needs
 
 returns-3 : tie.Need-returns-3 Inv-loop μ-loop
 returns-3 c =
-    λ n e. counts n (c .before .before .before .before .before .before .before .before .before .before .loop .at) _ e (omega (arith, kept (c .before .before .before .before .before), c .before .before .before .before .before .before .before .before .before .before .loop .inv .0))
+    let l = c .before .before .before .before .before .before .before .before .before .before .loop in
+    λ n e. counts n (l .at) _ e (omega (arith, kept (c .before .before .before .before .before), l .inv .0))
 
 pub read-whole-spec : {M : Type 1} → statement M
 read-whole-spec =

@@ -30,7 +30,8 @@ returns-2 : tie.Need-returns-2
 returns-2 c =
     let s = c .before .before .before .before .before .before .before in
     let w = c .before .before .before .before .write in
-    absurd (put-never-refused (refusedLine (s .args .why)) (s .args .out .now) _ (w .result) (s .pre) (w .ensures .0) (w .ensures .1) _ (c .enum-told .given .1))
+    let l = refusedLine (s .args .why) in
+    absurd (put-never-refused l (s .args .out .now) _ (w .result) (s .pre) (w .ensures .0) (w .ensures .1) _ (c .enum-told .given .1))
 
 pub line-of-spec : {M : Type 1} → statement M
 line-of-spec =

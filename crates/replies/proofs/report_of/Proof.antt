@@ -21,8 +21,8 @@ room c =
 answer-requires : tie.Need-answer-requires
 answer-requires c κs = search needs
 
-enum-known-len : tie.Need-enum-known-len
-enum-known-len c = search needs
+enum-known-report-len : tie.Need-enum-known-report-len
+enum-known-report-len c = search needs
 
 enum-told : tie.Need-enum-told
 enum-told c = search needs
@@ -32,13 +32,17 @@ returns c =
     let s = c .before .before .before .before .before .before in
     let w = c .before .before .before .answer in
     let t = answerText (s .args .text .now) in
-    replied t (s .args .out .now) _ _ (room (c .before .before .before .before)) (put-whole t (s .args .out .now) _ (w .result) (room (c .before .before .before .before)) (w .ensures .0) (w .ensures .1) _ (c .before .len .given .1))
+    let d = s .args .out .now in
+    let h = room (c .before .before .before .before) in
+    replied t d _ _ h (put-whole t d _ (w .result) h (w .ensures .0) (w .ensures .1) _ (c .before .report-len .given .1))
 
 returns-2 : tie.Need-returns-2
 returns-2 c =
     let s = c .before .before .before .before .before in
     let w = c .before .before .answer in
-    absurd (put-never-refused (answerText (s .args .text .now)) (s .args .out .now) _ (w .result) (room (c .before .before .before)) (w .ensures .0) (w .ensures .1) _ (c .enum-told .given .1))
+    let t = answerText (s .args .text .now) in
+    let h = room (c .before .before .before) in
+    absurd (put-never-refused t (s .args .out .now) _ (w .result) h (w .ensures .0) (w .ensures .1) _ (c .enum-told .given .1))
 
 pub report-of-spec : {M : Type 1} → statement M
-report-of-spec = tie.close (tie.spec answer-requires enum-known-len enum-told returns returns-2)
+report-of-spec = tie.close (tie.spec answer-requires enum-known-report-len enum-told returns returns-2)

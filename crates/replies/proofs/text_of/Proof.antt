@@ -37,7 +37,8 @@ line-of-requires : tie.Need-line-of-requires
 line-of-requires c κs =
     let s = c .before .before .before .before .before .before in
     let r = c .before .before .before .before .read in
-    omega (arith, room s (c .line-of-arg .given .0 .1), ap length (text-refused (s .args .text .now) (r .result) _ (r .ensures) (c .before .before .outcome .given .1)))
+    let e = text-refused (s .args .text .now) (r .result) _ (r .ensures) (c .before .before .outcome .given .1) in
+    omega (arith, room s (c .line-of-arg .given .0 .1), ap length e)
 
 returns : tie.Need-returns
 returns c =

@@ -27,7 +27,8 @@ returns : tie.Need-returns
 returns c =
     let r = c .before .before .before .before .before .before .read in
     let s = c .before .before .before .before .before .before .before .before .before in
-    rw (reading-accepted (s .args .text .now) (r .result) (r .ensures) (c .before .before .before .before .enum-told .given .1) .1) (c .before .before .write-run .ensures)
+    let e = reading-accepted (s .args .text .now) (r .result) (r .ensures) (c .before .before .before .before .enum-told .given .1) .1 in
+    rw e (c .before .before .write-run .ensures)
 
 returns-2 : tie.Need-returns-2
 returns-2 c =

@@ -71,10 +71,15 @@ write-row-requires : tie.Need-write-row-requires Inv-loop μ-loop
 write-row-requires c κs = put-room _ (c .before .before .before .before .loop .inv .1) (turn (c .before))
 
 add-at : tie.Need-add-at Inv-loop μ-loop
-add-at c = omega (arith, turn (c .before .before .before .before), c .before .before .before .before .before .before .before .loop .inv .1 .end, c .before .before .write-row .ensures .0, c .before .before .before .before .before .before .before .before .before .before .before .good)
+add-at c =
+    let s = c .before .before .before .before .before .before .before .before .before .before .before in
+    let l = c .before .before .before .before .before .before .before .loop in
+    omega (arith, turn (c .before .before .before .before), l .inv .1 .end, c .before .before .write-row .ensures .0, s .good)
 
 add-i : tie.Need-add-i Inv-loop μ-loop
-add-i c = omega (arith, c .before .before .before .before .before .before .before .before .before .before .before .pre .0, c .before .before .before .before .before .before .loop-test .taken)
+add-i c =
+    let s = c .before .before .before .before .before .before .before .before .before .before .before in
+    omega (arith, s .pre .0, c .before .before .before .before .before .before .loop-test .taken)
 
 loop-less : tie.Need-loop-less Inv-loop μ-loop
 loop-less c = omega (arith, c .before .before .before .before .before .before .loop-test .taken)

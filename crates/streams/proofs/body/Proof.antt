@@ -25,7 +25,8 @@ same-length-2 c = search needs
 
 returns-2 : tie.Need-returns-2
 returns-2 c =
-    λ n e. counts n _ (omega (arith, bytes-same _ n e, c .before .before .before .before .before .before .read-whole .ensures _ (c .before .before .got .given .1) .0))
+    let w = c .before .before .before .before .before .before .read-whole in
+    λ n e. counts n _ (omega (arith, bytes-same _ n e, w .ensures _ (c .before .before .got .given .1) .0))
 
 same-length-3 : tie.Need-same-length-3
 same-length-3 c = search needs

@@ -51,7 +51,8 @@ slice-relend-prefix-body c = search needs
 slice-aggregate-body : tie.Need-slice-aggregate-body
 slice-aggregate-body c =
     let w = c .before .before .before .wide .result * 256 + c .before .before .wide2 .result in
-    let fits : w ≤ length (c .before .before .before .before .before .before .before .before .before .before .before .before .before .args .buf .now) = omega arith in
+    let s = c .before .before .before .before .before .before .before .before .before .before .before .before .before in
+    let fits : w ≤ length (s .args .buf .now) = omega arith in
     sym (length-take-le _ _ fits)
 
 body-requires : tie.Need-body-requires
@@ -66,7 +67,8 @@ same-length c = search needs
 returns-4 : tie.Need-returns-4
 returns-4 c =
     let len = c .before .before .before .before .before .before .wide .result * 256 + c .before .before .before .before .before .wide2 .result in
-    let rest = drop len (c .before .before .before .before .before .before .before .before .before .before .before .before .before .before .before .before .args .buf .now) in
+    let s = c .before .before .before .before .before .before .before .before .before .before .before .before .before .before .before .before in
+    let rest = drop len (s .args .buf .now) in
     λ n e. counts-before n (c .before .before .body .last .0) rest (c .before .before .body .ensures n e .0)
 
 returns-5 : tie.Need-returns-5

@@ -71,29 +71,29 @@ refused-requires c κs = search needs
 returns : tie.Need-returns Inv-loop μ-loop Inv-lines μ-lines
 returns c = c .refused .ensures ∙ ap readingOf (sym (no-text _ (c .before .if1 .taken)))
 
+sub-last : tie.Need-sub-last Inv-loop μ-loop Inv-lines μ-lines
+sub-last c = search needs
+
+shared-slice-read-last : tie.Need-shared-slice-read-last Inv-loop μ-loop Inv-lines μ-lines
+shared-slice-read-last c = search needs
+
 refused-requires-2 : tie.Need-refused-requires-2 Inv-loop μ-loop Inv-lines μ-lines
 refused-requires-2 c κs = search needs
 
 returns-2 : tie.Need-returns-2 Inv-loop μ-loop Inv-lines μ-lines
-returns-2 c = c .refused2 .ensures ∙ ap readingOf (sym (long-text _ (c .before .before .if1 .left) (c .before .if2 .taken)))
-
-sub-end : tie.Need-sub-end Inv-loop μ-loop Inv-lines μ-lines
-sub-end c = search needs
-
-shared-slice-read-if3 : tie.Need-shared-slice-read-if3 Inv-loop μ-loop Inv-lines μ-lines
-shared-slice-read-if3 c = search needs
+returns-2 c = c .refused2 .ensures ∙ ap readingOf (sym (long-text _ (c .before .before .before .if1 .left) (c .before .if2 .taken)))
 
 refused-requires-3 : tie.Need-refused-requires-3 Inv-loop μ-loop Inv-lines μ-lines
 refused-requires-3 c κs = search needs
 
 returns-3 : tie.Need-returns-3 Inv-loop μ-loop Inv-lines μ-lines
-returns-3 c = c .refused3 .ensures ∙ ap readingOf (sym (no-line-feed _ (c .before .before .before .before .if1 .left) (c .before .before .before .if2 .left) (c .before .if3 .taken)))
+returns-3 c = c .refused3 .ensures ∙ ap readingOf (sym (no-line-feed _ (c .before .before .before .before .if1 .left) (c .before .before .if2 .left) (c .before .if3 .taken)))
 
 empty-requires : tie.Need-empty-requires Inv-loop μ-loop Inv-lines μ-lines
 empty-requires c κs = search needs
 
 lines-holds : tie.Need-lines-holds Inv-loop μ-loop Inv-lines μ-lines
-lines-holds c = lines-begin _ _ (c .empty .ensures) (text-lines _ (c .before .before .before .before .if1 .left) (c .before .before .before .if2 .left) (c .before .if3 .left))
+lines-holds c = lines-begin _ _ (c .empty .ensures) (text-lines _ (c .before .before .before .before .if1 .left) (c .before .before .if2 .left) (c .before .if3 .left))
 
 add-number : tie.Need-add-number Inv-loop μ-loop Inv-lines μ-lines
 add-number c = search needs
@@ -170,7 +170,7 @@ with-number-requires c κs =
     (i .kept, omega (arith, i .some, c .before .before .before .before .if8 .left), field-few (atTab (c .before .before .before .before .before .before)) (counted (c .before .before .before .before .before .before .before .before .before .before)), i .times)
 
 add-p : tie.Need-add-p Inv-loop μ-loop Inv-lines μ-lines
-add-p c = omega (arith, tab-within (atTab (c .before .before)), line-short (c .before .before .before .before .before .before .before .before .before .before), c .before .before .before .before .before .before .before .before .before .before .before .before .before .before .before .before .before .before .if2 .left)
+add-p c = omega (arith, tab-within (atTab (c .before .before)), line-short (c .before .before .before .before .before .before .before .before .before .before), c .before .before .before .before .before .before .before .before .before .before .before .before .before .before .before .before .before .if2 .left)
 
 add-f : tie.Need-add-f Inv-loop μ-loop Inv-lines μ-lines
 add-f c = omega (arith, field-few (atTab (c .before .before)) (counted (c .before .before .before .before .before .before)))
@@ -211,7 +211,7 @@ element-set-from-row : tie.Need-element-set-from-row Inv-loop μ-loop Inv-lines 
 element-set-from-row c = search needs
 
 add-at : tie.Need-add-at Inv-loop μ-loop Inv-lines μ-lines
-add-at c = omega (arith, end-within (atEnd (c .before .before .before .before .before .before .before .before .before .before .before .before .before .before .before .before)), c .before .before .before .before .before .before .before .before .before .before .before .before .before .before .before .before .before .before .before .before .before .before .before .before .if2 .left)
+add-at c = omega (arith, end-within (atEnd (c .before .before .before .before .before .before .before .before .before .before .before .before .before .before .before .before)), c .before .before .before .before .before .before .before .before .before .before .before .before .before .before .before .before .before .before .before .before .before .before .before .if2 .left)
 
 lines-less : tie.Need-lines-less Inv-loop μ-loop Inv-lines μ-lines
 lines-less c = omega (arith, end-within (atEnd (c .before .before .before .before .before .before .before .before .before .before .before .before .before .before .before .before)), c .before .before .before .before .before .before .before .before .before .before .before .before .before .before .before .before .before .before .before .if4 .left, c .before .before .before .before .before .before .before .before .before .before .before .before .before .before .before .before .find .ensures)
@@ -263,10 +263,10 @@ read-spec =
     μ-lines
     refused-requires
     returns
+    sub-last
+    shared-slice-read-last
     refused-requires-2
     returns-2
-    sub-end
-    shared-slice-read-if3
     refused-requires-3
     returns-3
     empty-requires
