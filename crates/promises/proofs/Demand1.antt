@@ -22,7 +22,7 @@ use Rattle.table.specs.Limits.{mostRows, longestText, mostTicks}
 use Rattle.table.specs.Paper.{Table, rowAt}
 use Rattle.table.specs.Value.{tableOf, tableValue, emptyTable, wellFormed}
 use Rattle.table.specs.declared.Table.{Table as TableValue}
-use Rattle.table.proofs.Rules.{value-right}
+use Rattle.table.proofs.Rules.{value-right, value-back, table-right}
 use Rattle.fields.specs.Fields.{lineFeed}
 use Rattle.text.specs.declared.Written.{Written}
 use Rattle.text.specs.declared.Written.the-variants.{Bytes, Refused as NotWritten}
@@ -42,7 +42,8 @@ use Rattle.report.specs.Report.{reportText, reported, reportedInto}
 use Rattle.machine.specs.declared.Outcome.the-variants.{Ran, Refused as NotRun}
 use Rattle.machine.specs.declared.FullRun.{FullRun}
 use Rattle.machine.specs.Run.{slotOf, completions, refusedRun, fullRun, numberOfOutcome as numberOfRun}
-use Rattle.promises.specs.Demands.{reading, readNumber, due, Texts, Numbers, Nothing, completed}
+use Rattle.runs.specs.Runs.{runText, ranIn, ranInto}
+use Rattle.promises.specs.Demands.{reading, readNumber, due, Texts, Numbers, Nothing, RunNumbers, completed}
 
 -- texts
 
@@ -175,3 +176,36 @@ demand-1-nothing v = (
   (λ d. written-nothing (wellFormed v) (tableText (tableOf v)) d),
   (λ d. written-nothing (wellFormed v) (reportText (tableOf v)) d),
 )
+
+-- the full run of a text
+
+ran-due : (m k : ℕ) (c : Bool)
+    → numberOfWritten (if ltb mostTicks m then NotWritten ManyTicks else if c then Bytes k else NotWritten NoRoom) ≡ due true true (leb m mostTicks) c
+ran-due m k c = go (decLe m mostTicks) c
+  where
+    go : Dec (m ≤ mostTicks) → (c : Bool)
+        → numberOfWritten (if ltb mostTicks m then NotWritten ManyTicks else if c then Bytes k else NotWritten NoRoom) ≡ due true true (leb m mostTicks) c
+    go (yes h) true = rw (le-ltb mostTicks m h, le-leb m mostTicks h)
+    go (yes h) false = rw (le-ltb mostTicks m h, le-leb m mostTicks h)
+    go (no h) c = rw (lt-ltb mostTicks m (omega arith), lt-leb m mostTicks (omega arith))
+
+ran-nothing : (b : Bool) (bs d : List ℕ) → (numberOfWritten (if b then NotWritten ManyTicks else lengthIn bs d) ≡ 0 → ⊥) → (if b then d else placed bs d) ≡ d
+ran-nothing true bs d z = refl
+ran-nothing false bs d z = written-nothing true bs d z
+
+run-of : (s : List ℕ) (m : ℕ) (d : List ℕ) (a : Answer) → readText s ≡ a
+    → ((number a ≡ 0 → ⊥) → numberOfWritten (ranIn a m d) ≡ number a)
+    × (number a ≡ 0 → numberOfWritten (ranIn a m d) ≡ due true true (leb m mostTicks) (leb (length (runText (tableOf (readingOf a .table)) m)) (length d)))
+    × ((numberOfWritten (ranIn a m d) ≡ 0 → ⊥) → ranInto a m d ≡ d)
+run-of s m d (refused why) e = ((λ z. refl), (λ z. absurd (omega (arith, text-refuses s why e .low))), (λ z. refl))
+run-of s m d (accepted t) e =
+    let b = value-back t (table-right t (text-right s t e)) in (
+      (λ z. absurd (z refl)),
+      (λ z.
+          ran-due m (length (runText t m)) (leb (length (runText t m)) (length d))
+          ∙ ap (λ u. due true true (leb m mostTicks) (leb (length (runText u m)) (length d))) (sym b)),
+      ran-nothing (ltb mostTicks m) (runText t m) d,
+    )
+
+pub demand-1-runs : RunNumbers
+demand-1-runs s m d = run-of s m d (readText s) refl

@@ -302,16 +302,16 @@ demand-2-waiting v n a e more =
     let wn = whole-no v n a q in
     let sn = split-no v n a q more in (
       (λ R.
-        Iff·trans (same x)
-        (Iff·trans (waiting-whole (rowAt (tableOf v)) (n - 1) r more R)
-        ((λ h. (w R .1 (h .0), λ y z. h .1 y (s y .0 z))), (λ h. (w R .0 (h .0), λ y z. h .1 y (s y .1 z)))))),
+          Iff·trans (same x)
+          (Iff·trans (waiting-whole (rowAt (tableOf v)) (n - 1) r more R)
+          ((λ h. (w R .1 (h .0), λ y z. h .1 y (s y .0 z))), (λ h. (w R .0 (h .0), λ y z. h .1 y (s y .1 z)))))),
       (λ R.
-        Iff·trans (same x)
-        (Iff·trans (waiting-split (rowAt (tableOf v)) (n - 1) r more R)
-        ((λ h. (s R .1 (h .0), λ y z. h .1 y (w y .0 z))), (λ h. (s R .0 (h .0), λ y z. h .1 y (w y .1 z)))))),
+          Iff·trans (same x)
+          (Iff·trans (waiting-split (rowAt (tableOf v)) (n - 1) r more R)
+          ((λ h. (s R .1 (h .0), λ y z. h .1 y (w y .0 z))), (λ h. (s R .0 (h .0), λ y z. h .1 y (w y .1 z)))))),
       Iff·trans (same x)
-      (Iff·trans (waiting-open (rowAt (tableOf v)) (n - 1) r more)
-      ((λ h. (wn .1 (h .0), sn .1 (h .1))), (λ h. (wn .0 (h .0), sn .0 (h .1))))),
+          (Iff·trans (waiting-open (rowAt (tableOf v)) (n - 1) r more)
+          ((λ h. (wn .1 (h .0), sn .1 (h .1))), (λ h. (wn .0 (h .0), sn .0 (h .1))))),
       (λ h. waiting-misses (rowAt (tableOf v)) (n - 1) r more (sym x ∙ h)),
     )
 
@@ -319,9 +319,9 @@ pub demand-2-rounds : Rounds
 demand-2-rounds v n a e =
     let q = asked v n a e in (
       (λ one.
-        let z = rounds-one v n a q one in
-        let y : a .rounds ≡ rowRounds (rowAt (tableOf v)) (n - 1) = ap (λ (x : RowFigures). x .rounds) (q .is) in
-        (z, omega (arith, one-rounds (rowAt (tableOf v)) (n - 1) (right-rows v n a q) one))),
+          let z = rounds-one v n a q one in
+          let y : a .rounds ≡ rowRounds (rowAt (tableOf v)) (n - 1) = ap (λ (x : RowFigures). x .rounds) (q .is) in
+          (z, omega (arith, one-rounds (rowAt (tableOf v)) (n - 1) (right-rows v n a q) one))),
       (λ more. rounds-more v n a q more),
     )
 
@@ -358,8 +358,8 @@ module _ (v : TableValue) (ok : wellFormed v ≡ true) where
   unfolding verdicts
   fits-all = (
     (λ e n a h.
-      let q = asked v n a h in
-      ap fits (verdict-is v n a q) ∙ all-below-each fits (verdict (rowAt (tableOf v))) (length (tableOf v)) e (n - 1) (there v n a q)),
+        let q = asked v n a h in
+        ap fits (verdict-is v n a q) ∙ all-below-each fits (verdict (rowAt (tableOf v))) (length (tableOf v)) e (n - 1) (there v n a q)),
     (λ h. each-all-below fits (verdict (rowAt (tableOf v))) (length (tableOf v)) (λ i l. each i l h)),
   )
     where
@@ -372,12 +372,12 @@ module _ (v : TableValue) (ok : wellFormed v ≡ true) where
   unfolding verdicts
   misses-some = (
     (λ e.
-      let x = any-below-some misses (verdict (rowAt (tableOf v))) (length (tableOf v)) e in
-      let z : x .0 + 1 - 1 ≡ x .0 = omega arith in
-      (x .0 + 1, figuresOf (rowAt (tableOf v)) (x .0 + 1 - 1), told v (x .0 + 1) ok (omega arith) (omega (arith, x .1)), ap (verdict (rowAt (tableOf v))) z ∙ misses-is _ (x .2))),
+        let x = any-below-some misses (verdict (rowAt (tableOf v))) (length (tableOf v)) e in
+        let z : x .0 + 1 - 1 ≡ x .0 = omega arith in
+        (x .0 + 1, figuresOf (rowAt (tableOf v)) (x .0 + 1 - 1), told v (x .0 + 1) ok (omega arith) (omega (arith, x .1)), ap (verdict (rowAt (tableOf v))) z ∙ misses-is _ (x .2))),
     (λ x.
-      let q = asked v (x .0) (x .1) (x .2) in
-      some-any-below misses (verdict (rowAt (tableOf v))) (length (tableOf v)) (x .0 - 1) (there v (x .0) (x .1) q) (ap misses (sym (verdict-is v (x .0) (x .1) q) ∙ x .3))),
+        let q = asked v (x .0) (x .1) (x .2) in
+        some-any-below misses (verdict (rowAt (tableOf v))) (length (tableOf v)) (x .0 - 1) (there v (x .0) (x .1) q) (ap misses (sym (verdict-is v (x .0) (x .1) q) ∙ x .3))),
   )
 
   overall-is : tableFigures v .verdict ≡ overall (verdicts (tableOf v))
@@ -388,8 +388,8 @@ module _ (v : TableValue) (ok : wellFormed v ≡ true) where
   one-way e =
       not-true (any misses (verdicts (tableOf v)))
       (λ m.
-        let x = misses-some .0 m in
-        not-both (x .1 .verdict) (fits-all .0 e (x .0) (x .1) (x .2)) (ap misses (x .3)))
+      let x = misses-some .0 m in
+      not-both (x .1 .verdict) (fits-all .0 e (x .0) (x .1) (x .2)) (ap misses (x .3)))
 
 pub demand-2-verdict : TableVerdict
 demand-2-verdict v ok =
@@ -400,9 +400,8 @@ demand-2-verdict v ok =
       Iff·trans (same o) (Iff·trans (s .0) fa),
       Iff·trans (same o) (Iff·trans (s .1) ms),
       Iff·trans (same o)
-      (Iff·trans (s .2)
-      (
-        (λ h. ((λ g. false≢true (sym (h .0) ∙ fa .1 g)), (λ n a t m. false≢true (sym (h .1) ∙ ms .1 (n, a, t, m))))),
-        (λ h. (not-true _ (λ e. h .0 (fa .0 e)), not-true _ (λ e. let x = ms .0 e in h .1 (x .0) (x .1) (x .2) (x .3)))),
-      )),
+          (Iff·trans (s .2) (
+            (λ h. ((λ g. false≢true (sym (h .0) ∙ fa .1 g)), (λ n a t m. false≢true (sym (h .1) ∙ ms .1 (n, a, t, m))))),
+            (λ h. (not-true _ (λ e. h .0 (fa .0 e)), not-true _ (λ e. let x = ms .0 e in h .1 (x .0) (x .1) (x .2) (x .3)))),
+          )),
     )

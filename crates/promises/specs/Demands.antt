@@ -1,6 +1,7 @@
 -- THE THREE DEMANDS, about the meanings of the public functions, for every input. proofs/Demands shows each of them.
 -- text::read is `reading`, text::write is `written` and `writtenInto`, figures::row_figures is `rowAnswer`, figures::table_figures is
--- `tableFigures`, report::write is `reported` and `reportedInto`, report::answer is `answerText`, machine::full_run is `fullRun`: the contracts say so.
+-- `tableFigures`, report::write is `reported` and `reportedInto`, report::answer is `answerText`, machine::full_run is `fullRun`, runs::answer is `ranIn` and
+-- `ranInto`: the contracts say so.
 use mathlib.Core.Path.{_≡_}
 use mathlib.Core.Bool.{Bool, true, false}
 use mathlib.Core.List.{List, [], _∷_}
@@ -43,6 +44,7 @@ use Rattle.kernel.specs.Rules.{Input, LegalRun, after, full, Complete}
 use Rattle.machine.specs.declared.First.{First}
 use Rattle.machine.specs.declared.First.the-variants.{At, Not}
 use Rattle.machine.specs.Run.{noSlot, fullRun, numberOfOutcome as numberOfRun}
+use Rattle.runs.specs.Runs.{runText, ranIn, ranInto}
 
 -- ---- the words of this page; rows are counted from 1
 
@@ -101,6 +103,14 @@ Nothing = (v : TableValue)
     × ((m n : ℕ) → (numberOfRun (fullRun v m .outcome) ≡ 0 → ⊥) → completed v m n ≡ Not)
     × ((d : List ℕ) → (numberOfWritten (written v d) ≡ 0 → ⊥) → writtenInto v d ≡ d)
     × ((d : List ℕ) → (numberOfWritten (reported v d) ≡ 0 → ⊥) → reportedInto v d ≡ d)
+
+-- the full run of a text: the number of the text, then 23 before 22; behind a number the lent bytes are as they were
+abbrev pub RunNumbers : Type 0
+RunNumbers = (s : List ℕ) (m : ℕ) (d : List ℕ)
+    → ((readNumber s ≡ 0 → ⊥) → numberOfWritten (ranIn (readText s) m d) ≡ readNumber s)
+    × (readNumber s ≡ 0
+    → numberOfWritten (ranIn (readText s) m d) ≡ due true true (leb m mostTicks) (leb (length (runText (tableOf (reading s .table)) m)) (length d)))
+    × ((numberOfWritten (ranIn (readText s) m d) ≡ 0 → ⊥) → ranInto (readText s) m d ≡ d)
 
 -- ---- 2: texts read, write back and are answered; figures are the published recurrence's
 
