@@ -12,7 +12,7 @@ use Rattle.table.specs.Paper.{Row}
 use Rattle.figures.specs.Figures.{ceiling, arrivals}
 
 module _ (n : ℕ) (some : 1 ≤ n) where
-  ceiling-zero : ceiling 0 n ≡ 0
+  pub ceiling-zero : ceiling 0 n ≡ 0
   unfolding ceiling
   ceiling-zero = div-eq-of-lt (omega arith)
 
@@ -26,7 +26,7 @@ module _ (n : ℕ) (some : 1 ≤ n) where
       let e : suc t + (n - 1) ≡ t + n = omega arith in
       omega (arith, ap (λ k. k / n) e, add-div-right t some)
 
-  ceiling-step : (t : ℕ) → ceiling (suc t) n ≡ suc (ceiling (suc t - n) n)
+  pub ceiling-step : (t : ℕ) → ceiling (suc t) n ≡ suc (ceiling (suc t - n) n)
   unfolding ceiling
   ceiling-step t = go (decLe n (suc t))
     where
@@ -81,6 +81,11 @@ module _ (r : Row) (some : 1 ≤ r .period) where
       go true e h = omega arith
       go false e h = omega arith
 
+  -- so many periods reach less than one beyond the window
+  pub arrivals-reach : (t : ℕ) → arrivals r t * r .period ≤ t + (r .period - 1)
+  unfolding arrivals ceiling
+  arrivals-reach t = div-mul-le-self (t + (r .period - 1)) (r .period)
+
   -- a count of releases holds up to the instant that many periods reach
   pub arrivals-held : (s t : ℕ) → s ≤ t → t ≤ arrivals r s * r .period → arrivals r t ≡ arrivals r s
   unfolding arrivals ceiling
@@ -91,14 +96,23 @@ module _ (r : Row) (some : 1 ≤ r .period) where
       omega (arith, arrivals-mono s t le)
 
   -- beyond it, what is left of the window counts afresh
-  pub arrivals-passed : (s t : ℕ) → s ≤ t → arrivals r s * r .period < t
-      → arrivals r t ≡ arrivals r s + (t - arrivals r s * r .period + (r .period - 1)) / r .period
+  arrivals-passed : (s t : ℕ) → s ≤ t → arrivals r s * r .period < t → arrivals r t ≡ arrivals r s + ceiling (t - arrivals r s * r .period) (r .period)
   unfolding arrivals ceiling
   arrivals-passed s t le h =
       let m = arrivals r s in
       let x = t - m * r .period + (r .period - 1) in
       let e : t + (r .period - 1) ≡ x + r .period * m = omega (arith, mul-comm m (r .period), h) in
       omega (arith, ap (λ k. k / r .period) e, add-mul-div-left x m some)
+
+  -- so a window is counted on from any instant before its end
+  pub arrivals-on : (s t : ℕ) → s ≤ t → arrivals r t ≡ arrivals r s + ceiling (t - arrivals r s * r .period) (r .period)
+  arrivals-on s t le = go (decLe t (arrivals r s * r .period))
+    where
+      go : Dec (t ≤ arrivals r s * r .period) → arrivals r t ≡ arrivals r s + ceiling (t - arrivals r s * r .period) (r .period)
+      go (yes h) =
+          let z : t - arrivals r s * r .period ≡ 0 = omega arith in
+          omega (arith, arrivals-held s t le h, ap (λ k. ceiling k (r .period)) z, ceiling-zero (r .period) some)
+      go (no h) = arrivals-passed s t le (omega arith)
 
 -- releases depend on T alone
 pub arrivals-same : (r q : Row) → r .period ≡ q .period → (t : ℕ) → arrivals r t ≡ arrivals q t

@@ -1,6 +1,7 @@
 -- Releases counted on from one instant to a later one, row by row: a row is counted anew only where its count no longer holds.
 use mathlib.Core.Path.{_≡_, refl, sym, ap, _∙_}
-use mathlib.Core.List.{List}
+use mathlib.Core.List.{List, []}
+use mathlib.Core.Logic.{_⊎_, inl, inr}
 use Prim.Native.Nat.{ℕ, zero, suc, _+_, _-_, _*_, _/_, _≤_, _<_}
 use native.Mathlib.Nat.{mul-le-mul, mul-le-mul-right}
 use native.Mathlib.Numerals.{add-one}
@@ -10,9 +11,9 @@ use lib.ListN.{length, getD, set, replicate, getD-replicate}
 use lib.Seq.{getD-set-same, getD-set-other}
 use Rattle.table.specs.Limits.{mostRows}
 use Rattle.table.specs.Paper.{Row, parts, work}
-use Rattle.figures.specs.Figures.{arrivals, demand}
-use Rattle.figures.specs.Work.{safeNumber, rowsFrom, Modest, Counted, CountedAt}
-use Rattle.figures.proofs.Arrivals.{arrivals-zero, arrivals-most, arrivals-mono, arrivals-held, arrivals-passed}
+use Rattle.figures.specs.Figures.{ceiling, arrivals, demand}
+use Rattle.figures.specs.Work.{safeNumber, moreOf, rowsFrom, Modest, Counted, CountedAt}
+use Rattle.figures.proofs.Arrivals.{ceiling-zero, ceiling-step, arrivals-zero, arrivals-most, arrivals-mono, arrivals-reach, arrivals-on}
 
 -- the rows below i are counted at t, the others still at an earlier instant
 pub record Halfway (rows : ℕ → Row) (k t i total : ℕ) (until : List ℕ) : Type 0 where
@@ -62,61 +63,71 @@ module _ (rows : ℕ → Row) (k t i total : ℕ) (until : List ℕ) (some : (j 
   halfway-most = omega (arith, w .sums, grows rows k i (w .at) t some (w .within) (w .before))
 
   module _ (below : i < k) where
-    -- a row whose count still holds
-    pub halfway-held : t ≤ getD until i 0 → Halfway rows k t (i + 1) total until
-    halfway-held h =
+    abbrev more : ℕ
+    more = moreOf (getD until i 0) (rows i .period) t
+
+    count-on : arrivals (rows i) t ≡ arrivals (rows i) (w .at) + more
+    unfolding moreOf
+    count-on =
         let here = w .left i (omega arith) below in
-        let e = arrivals-held (rows i) (some i below) (w .at) t (w .before) (omega (arith, here)) in
+        arrivals-on (rows i) (some i below) (w .at) t (w .before)
+        ∙ ap (λ n. arrivals (rows i) (w .at) + ceiling (t - n) (rows i .period)) (sym here)
+
+    -- the instant up to which its count holds lies less than T beyond the window
+    pub held-near : getD until i 0 ≤ t + rows i .period
+    held-near = omega (arith, w .left i (omega arith) below, arrivals-reach (rows i) (some i below) (w .at), w .before)
+
+    -- one row more, counted on
+    pub halfway-next : (sum held : ℕ) → sum ≡ total + more * work (parts (rows i .times)) → held ≡ getD until i 0 + more * rows i .period
+        → i < length until → Halfway rows k t (i + 1) sum (set until i held)
+    halfway-next sum held sum-is held-is size =
         record {
           at = w .at;
           before = w .before;
           within = omega arith;
-          sums = rw add-one (omega (arith, w .sums, ap (λ n. n * work (parts (rows i .times))) e));
-          done = λ j l. here-or-below j l e here;
-          left = λ j l m. w .left j (omega arith) m;
+          sums = rw add-one (omega (arith, w .sums, sum-is, ap (λ n. n * work (parts (rows i .times))) count-on));
+          done = λ j l. here-or-below j l (decLt j i);
+          left = λ j l m. getD-set-other until i j held 0 (λ z. omega (arith, z)) ∙ w .left j (omega arith) m;
         }
       where
-        here-or-below : (j : ℕ) → j < i + 1 → arrivals (rows i) t ≡ arrivals (rows i) (w .at) → getD until i 0 ≡ arrivals (rows i) (w .at) * rows i .period
-            → getD until j 0 ≡ arrivals (rows j) t * rows j .period
-        here-or-below j l e here = go (decLt j i)
-          where
-            go : Dec (j < i) → getD until j 0 ≡ arrivals (rows j) t * rows j .period
-            go (yes b) = w .done j b
-            go (no b) =
-                let z : j ≡ i = omega arith in
-                rw z (here ∙ ap (λ n. n * rows i .period) (sym e))
+        here-or-below : (j : ℕ) → j < i + 1 → Dec (j < i) → getD (set until i held) j 0 ≡ arrivals (rows j) t * rows j .period
+        here-or-below j l (yes b) = getD-set-other until i j held 0 (λ z. omega (arith, z)) ∙ w .done j b
+        here-or-below j l (no b) =
+            let z : j ≡ i = omega arith in
+            let here = w .left i (omega arith) below in
+            let p : held ≡ arrivals (rows i) t * rows i .period = omega (arith, held-is, here, ap (λ n. n * rows i .period) count-on) in
+            rw z (getD-set-same until i held 0 size ∙ p)
 
-    -- a row that is counted anew: `more` releases come in
-    module _ (h : getD until i 0 < t) (more : ℕ) (more-is : more ≡ (t - getD until i 0 + (rows i .period - 1)) / rows i .period) where
-      pub count-passed : arrivals (rows i) t ≡ arrivals (rows i) (w .at) + more
-      count-passed =
-          let here = w .left i (omega arith) below in
-          let e = arrivals-passed (rows i) (some i below) (w .at) t (w .before) (omega (arith, here)) in
-          e ∙ ap (λ n. arrivals (rows i) (w .at) + (t - n + (rows i .period - 1)) / rows i .period) (sym here)
-          ∙ ap (λ n. arrivals (rows i) (w .at) + n) (sym more-is)
+-- counting on from u: release by release
+module _ (period : ℕ) (some : 1 ≤ period) where
+  pub more-none : (u t : ℕ) → t ≤ u → moreOf u period t ≡ 0
+  unfolding moreOf
+  more-none u t h =
+      let z : t - u ≡ 0 = omega arith in
+      ap (λ k. ceiling k period) z ∙ ceiling-zero period some
 
-      pub more-few : more ≤ t
-      more-few = omega (arith, count-passed, arrivals-most (rows i) (some i below) t)
+  more-step : (u t : ℕ) → u < t → moreOf u period t ≡ suc (moreOf (u + period) period t)
+  unfolding moreOf
+  more-step u t h =
+      let x : suc (t - u - 1) ≡ t - u = omega arith in
+      let y : suc (t - u - 1) - period ≡ t - (u + period) = omega arith in
+      sym (ap (λ k. ceiling k period) x) ∙ ceiling-step period some (t - u - 1) ∙ ap (λ k. suc (ceiling k period)) y
 
-      pub halfway-passed : (sum held : ℕ) → sum ≡ total + more * work (parts (rows i .times)) → held ≡ getD until i 0 + more * rows i .period
-          → i < length until → Halfway rows k t (i + 1) sum (set until i held)
-      halfway-passed sum held sum-is held-is size =
-          record {
-            at = w .at;
-            before = w .before;
-            within = omega arith;
-            sums = rw add-one (omega (arith, w .sums, sum-is, ap (λ n. n * work (parts (rows i .times))) count-passed));
-            done = λ j l. here-or-below j l (decLt j i);
-            left = λ j l m. getD-set-other until i j held 0 (λ z. omega (arith, z)) ∙ w .left j (omega arith) m;
-          }
-        where
-          here-or-below : (j : ℕ) → j < i + 1 → Dec (j < i) → getD (set until i held) j 0 ≡ arrivals (rows j) t * rows j .period
-          here-or-below j l (yes b) = getD-set-other until i j held 0 (λ z. omega (arith, z)) ∙ w .done j b
-          here-or-below j l (no b) =
-              let z : j ≡ i = omega arith in
-              let here = w .left i (omega arith) below in
-              rw z (getD-set-same until i held 0 size
-              ∙ (let p : held ≡ arrivals (rows i) t * rows i .period = omega (arith, held-is, here, ap (λ n. n * rows i .period) count-passed) in p))
+  pub more-few : (u t : ℕ) → moreOf u period t ≤ t
+  unfolding moreOf arrivals
+  more-few u t = omega (arith, arrivals-most (record { name = []; period = period; deadline = 0; times = [] }) some (t - u))
+
+  -- one release chosen or not, and the rest counted from there, is the same as all counted from `held`
+  pub chosen : (held work t u a : ℕ) → ((held < t) × (u ≡ held + period) × (a ≡ work)) ⊎ ((t ≤ held) × (u ≡ held) × (a ≡ 0))
+      → (u + moreOf u period t * period ≡ held + moreOf held period t * period) × (a + moreOf u period t * work ≡ moreOf held period t * work)
+      × (u ≤ held + period) × (a ≤ work)
+  chosen held work t u a (inl (h, p, q)) =
+      let e : moreOf held period t ≡ suc (moreOf u period t) = more-step held t h ∙ ap (λ k. suc (moreOf k period t)) (sym p) in
+      (omega (arith, ap (λ n. n * period) e), omega (arith, ap (λ n. n * work) e), omega arith, omega arith)
+  chosen held work t u a (inr (h, p, q)) =
+      let e : moreOf u period t ≡ moreOf held period t = ap (λ k. moreOf k period t) p in
+      let z = more-none held t h in
+      (omega (arith, ap (λ n. n * period) e), omega (arith, ap (λ n. n * work) e, ap (λ n. n * work) z), omega arith, omega arith)
 
 -- the numbers of the rows above keep every count and every sum within 64 bits
 pub demand-safe : (k n t : ℕ) (periods works : List ℕ) → Modest n periods works → k ≤ n → t ≤ safeNumber → demand (rowsFrom periods works) k t ≤ k * (safeNumber * safeNumber)

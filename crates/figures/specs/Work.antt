@@ -2,14 +2,15 @@
 use mathlib.Core.Path.{_≡_}
 use mathlib.Core.Bool.{true}
 use mathlib.Core.List.{List, [], _∷_}
-use Prim.Native.Nat.{ℕ, _*_, _≤_, _<_}
+use Prim.Native.Nat.{ℕ, _+_, _-_, _*_, _≤_, _<_}
 use lib.ListN.{length, getD}
 use Rattle.table.specs.Limits.{mostRows}
 use Rattle.table.specs.Paper.{Row, parts, work, rightRow}
 use Rattle.table.specs.Value.{noValue, rowOf, rowValue}
 use Rattle.table.specs.declared.Row.{Row as RowValue}
+use Rattle.figures.specs.declared.Ahead.{Ahead}
 use Rattle.figures.specs.declared.Worked.{Worked}
-use Rattle.figures.specs.Figures.{arrivals, demand, result, rounds, splitFrom, splitRounds}
+use Rattle.figures.specs.Figures.{ceiling, arrivals, demand, result, rounds, splitFrom, splitRounds}
 use Rattle.verdicts.specs.Verdicts.{figureOf}
 
 -- numbers up to this one keep every sum and product of the figures within 64 bits; a table's limit is at most this
@@ -27,6 +28,14 @@ splitWorked rows k = record { figure = figureOf (splitFrom rows k (parts (rows k
 -- the rows above, as their T and their added C give them
 abbrev pub rowsFrom : List ℕ → List ℕ → ℕ → Row
 rowsFrom periods works i = record { name = []; period = getD periods i 0; deadline = 0; times = getD works i 0 ∷ [] }
+
+-- the releases of a row with that period that come in between the instant `held`, up to which its count holds, and t
+unfoldable pub moreOf : ℕ → ℕ → ℕ → ℕ
+moreOf held period t = ceiling (t - held) period
+
+-- the row counted on: up to which instant its count holds then, and what those releases ask for
+abbrev pub aheadOf : ℕ → ℕ → ℕ → ℕ → Ahead
+aheadOf held period work t = record { 0 = held + moreOf held period t * period; 1 = moreOf held period t * work }
 
 -- k rows above, whose numbers are safe
 pub record Modest (k : ℕ) (periods works : List ℕ) : Type 0 where

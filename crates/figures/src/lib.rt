@@ -9,7 +9,7 @@ ghost use Rattle.table.specs.Value.{rowOf, noValue};
 ghost use Rattle.ticks.specs.Ticks.{ticks};
 ghost use Rattle.figures.specs.Figures.{right, own};
 ghost use Rattle.figures.specs.Answers.{figuresOf, rowAnswer, tableFigures};
-ghost use Rattle.figures.specs.Work.{safeNumber, workedOf, splitWorked, rowsFrom, rowsOf, Modest, Counted, CountedAt, Taken, Kept};
+ghost use Rattle.figures.specs.Work.{safeNumber, workedOf, aheadOf, splitWorked, rowsFrom, rowsOf, Modest, Counted, CountedAt, Taken, Kept};
 use refusals::Refusal;
 use table::Row;
 use table::Table;
@@ -88,8 +88,31 @@ fn above_of(rows: [Row; Table::ROWS], k: usize) -> Above
     Above { periods, works }
 }
 
+// A row counted on: up to which instant its count of releases holds, and what the releases that came in ask for.
+struct Ahead(u64, u64);
+
+// Counts a row on from the instant `held` until its count holds at t. The first release is chosen without a branch, since whether
+// a row has moved is hard to foresee; a division is made only where one release isn't enough.
+fn count_on(held: u64, period: u64, work: u64, t: u64) -> Ahead
+    requires { ⌜ (1 ≤ period) × (period ≤ safeNumber) × (work ≤ safeNumber) × (t ≤ safeNumber) × (held ≤ safeNumber + safeNumber) ⌝ }
+    ensures { λ r. ⌜ r ≡ aheadOf held period work t ⌝ }
+{
+    let mut upto = held;
+    let mut add: u64 = 0;
+    if held < t {
+        upto = held + period;
+        add = work;
+    }
+    if upto < t {
+        let more = (t - upto + (period - 1)) / period;
+        upto += more * period;
+        add += more * work;
+    }
+    Ahead(upto, add)
+}
+
 // What the rows above ask for in a window of t ticks. For each row `until` has the instant up to which its count of releases
-// holds, and `sum` is what those counts come to: as t only rises, a row is divided only where t has passed that instant.
+// holds, and `sum` is what those counts come to: as t only rises, a row is counted on from there.
 fn demand_at(periods: &[u64], works: &[u64], k: usize, t: u64, sum: u64, until: &mut [u64]) -> u64
     requires { ⌜ Modest k (now periods) (now works) × (t ≤ safeNumber) × (length (now until) ≡ mostRows) × Counted (rowsFrom (now periods) (now works)) k t sum (now until) ⌝ }
     ensures { λ r. ⌜ CountedAt (rowsFrom (now (periods .entry)) (now (works .entry))) k t r (now (until .exit)) × (length (now (until .exit)) ≡ mostRows) ⌝ }
@@ -97,13 +120,9 @@ fn demand_at(periods: &[u64], works: &[u64], k: usize, t: u64, sum: u64, until: 
     let mut total = sum;
     let mut i: usize = 0;
     while i < k {
-        let held = until[i];
-        if held < t {
-            let period = periods[i];
-            let more = (t - held + (period - 1)) / period;
-            total += more * works[i];
-            until[i] = held + more * period;
-        }
+        let row = count_on(until[i], periods[i], works[i], t);
+        until[i] = row.0;
+        total += row.1;
         i += 1;
     }
     total
