@@ -3,16 +3,17 @@ use mathlib.Core.Path.{_≡_, refl, ap, _∙_}
 use mathlib.Core.Bool.{Bool, true, false}
 use mathlib.Core.List.{List, [], _∷_}
 use mathlib.Core.Option.{none, some}
-use mathlib.Core.Logic.{_⊎_, inl, inr, _↔_}
+use mathlib.Core.Logic.{_⊎_, inl, inr, ⊎-elim, _↔_}
 use Prim.Native.Nat.{ℕ, zero, suc, _+_, _-_, _≤_, _<_}
 use native.Mathlib.Nat.{mul-le-mul-right}
 use native.Mathlib.Omega.{arith}
+use native.Mathlib.Numerals.{add-one}
 use lib.Dec.{eqb, ltb}
 use lib.ListN.{length}
 use borrow.Author.Tests.{eqb-true, eqb-false, ltb-true, ltb-false, eq-eqb, ne-eqb}
 use Rattle.words.proofs.Choice.{or-parts, or-false, if-true, if-false}
 use Rattle.table.specs.Paper.{Row, parts, work}
-use Rattle.figures.specs.Fixed.{Smallest, NoneUpTo}
+use Rattle.figures.specs.Fixed.{Smallest, NoneUpTo, Took, settles, passes, goes-on}
 use Rattle.figures.specs.Figures.{demand, stops, sequenceFrom, sequence, last, settled, result, rounds}
 use Rattle.figures.proofs.Arrivals.{arrivals-mono}
 
@@ -61,6 +62,15 @@ module _ (f : ℕ → ℕ) (d : ℕ) where
         (record { up = mono t (f t) (g .up); low = h .1; under = λ y fix. omega (arith, mono t y (g .under y fix)) })
         (omega arith))
 
+    -- its length is the number of times that f was worked out
+    took : (n t : ℕ) (b : Bool) → stops f d t ≡ b → t ≤ f t → d - t ≤ n → Took f d t (length (sequenceFrom n f d t b))
+    took zero t true e g le = ⊎-elim settles passes (why-stopped t e)
+    took zero t false e g le = absurd (why-on t e .0 (omega (arith, why-on t e .1)))
+    took (suc n) t true e g le = ⊎-elim settles passes (why-stopped t e)
+    took (suc n) t false e g le =
+        let h = why-on t e in
+        rw (← add-one) (goes-on (h .0) (h .1) (took n (f t) (stops f d (f t)) refl (mono t (f t) g) (omega (arith, h .0))))
+
     module _ (c : ℕ) (positive : 1 ≤ c) (fits : c ≤ d) (above : (t : ℕ) → c ≤ f t) where
       ended : End c (sequence f d c)
       unfolding sequence
@@ -107,6 +117,11 @@ module _ (f : ℕ → ℕ) (d : ℕ) where
           from : Answer → NoneUpTo d f → result f d c ≡ none
           from (found S e l le under) h = absurd (omega (arith, h S (l .positive) (l .fixed)))
           from (missing e n) h = e
+
+      -- rounds: the right side is worked out so often
+      pub rounds-took : Took f d c (rounds f d c)
+      unfolding sequence
+      rounds-took = took (d - c) c (stops f d c) refl (above c) (omega arith)
 
       -- the right side is worked out at most d - c + 1 times
       pub rounds-few : rounds f d c ≤ d - c + 1

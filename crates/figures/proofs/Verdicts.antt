@@ -17,9 +17,9 @@ use Rattle.verdicts.specs.Verdicts.{atMost, single, lesser}
 use Rattle.verdicts.specs.declared.Bound.{Bound}
 use Rattle.verdicts.specs.declared.Bound.the-variants.{Whole, Split}
 use Rattle.verdicts.specs.declared.Verdict.the-variants.{Fits, Misses, Open}
-use Rattle.figures.specs.Fixed.{Smallest, NoneUpTo}
+use Rattle.figures.specs.Fixed.{Smallest, NoneUpTo, Took}
 use Rattle.figures.specs.Figures.{right, result, rounds, own, whole, split, splitFrom, judge, verdict, withSplit, rowRounds, splitRounds}
-use Rattle.figures.proofs.Recurrence.{result-some, result-none, rounds-few, demand-mono}
+use Rattle.figures.proofs.Recurrence.{result-some, result-none, rounds-took, rounds-few, demand-mono}
 use Rattle.figures.proofs.Rows.{Sane, sane, one-time, more-times}
 
 -- the bound of that name, of whole and split
@@ -141,6 +141,10 @@ module _ (rows : ℕ → Row) (k : ℕ) where
       pub stretch-none : (result (right rows k c) (rows k .deadline) c ≡ none) ↔ NoneUpTo (rows k .deadline) (right rows k c)
       stretch-none = result-none (right rows k c) (rows k .deadline) (right-mono c) c c-some c-fits (λ t. omega arith)
 
+      -- so often its right side is worked out
+      pub stretch-took : Took (right rows k c) (rows k .deadline) c (rounds (right rows k c) (rows k .deadline) c)
+      stretch-took = rounds-took (right rows k c) (rows k .deadline) (right-mono c) c c-some c-fits (λ t. omega arith)
+
       -- it takes at most D - c + 1 rounds
       pub stretch-rounds : rounds (right rows k c) (rows k .deadline) c ≤ rows k .deadline - c + 1
       stretch-rounds = rounds-few (right rows k c) (rows k .deadline) (right-mono c) c c-some c-fits (λ t. omega arith)
@@ -148,6 +152,10 @@ module _ (rows : ℕ → Row) (k : ℕ) where
     -- whole is R exactly where R is the smallest positive fixed point, and at most D
     pub whole-fixed : (R : ℕ) → (whole rows k ≡ some R) ↔ (Smallest (right rows k (own (rows k))) R × (R ≤ rows k .deadline))
     whole-fixed = stretch-fixed (own (rows k)) (row .own-some) (row .own-fits)
+
+    -- whole's right side is worked out so often
+    pub whole-took : Took (right rows k (own (rows k))) (rows k .deadline) (own (rows k)) (rounds (right rows k (own (rows k))) (rows k .deadline) (own (rows k)))
+    whole-took = stretch-took (own (rows k)) (row .own-some) (row .own-fits)
 
     -- whole is none exactly where no positive fixed point is at most D
     pub whole-none : (whole rows k ≡ none) ↔ NoneUpTo (rows k .deadline) (right rows k (own (rows k)))

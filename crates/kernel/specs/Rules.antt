@@ -9,7 +9,7 @@ use lib.ListN.{length}
 use Rattle.words.specs.Choice.{if_then_else_}
 use Rattle.table.specs.Paper.{Row, Table, rowAt, Part, part, parts}
 
--- a job: its release, and the stretches that are left of it, each with the suspension before it; never none
+-- a job: its release, and the stretches that are left of it, each with the suspension before it; in an allowed run never none
 pub data Job : Type 0 where
   job : ℕ → List Part → Job
 

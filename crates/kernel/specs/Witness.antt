@@ -1,5 +1,6 @@
--- Runs that the kernel's rules allow, and runs that they do not, with what happens in them: so the set of the allowed runs is neither narrower
--- nor wider than document 01 has it. Rows are written "T D times", as there, and counted from 0. proofs/Witness shows each of them.
+-- Runs that the kernel's rules allow, and runs that they do not, with what happens in them, on both sides of each rule. That the set of the
+-- allowed runs is the one of document 01 is what specs/Numbers says of all runs; these are the ones to look at. Rows are written "T D times",
+-- as in 01, and counted from 0. proofs/Witness shows each of them.
 use mathlib.Core.Path.{_≡_}
 use mathlib.Core.Bool.{true}
 use mathlib.Core.List.{List, [], _∷_}
@@ -134,7 +135,7 @@ tickTable = row "a" 1 1 (1 ∷ []) ∷ []
 abbrev pub oneTick : List (List Job)
 oneTick = (once 0 1 ∷ []) ∷ []
 
--- a stretch takes 1 tick or more
+-- a stretch takes 1 tick or more; on paper one of none never ends
 abbrev pub LeastStretch : Type 0
 LeastStretch = BothSides tickTable oneTick ((once 0 0 ∷ []) ∷ []) 0 0 1
 

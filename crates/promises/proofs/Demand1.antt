@@ -24,6 +24,7 @@ use Rattle.table.specs.Value.{tableOf, tableValue, emptyTable, wellFormed}
 use Rattle.table.specs.declared.Table.{Table as TableValue}
 use Rattle.table.proofs.Rules.{value-right, value-back, table-right}
 use Rattle.fields.specs.Fields.{lineFeed}
+use Rattle.text.specs.declared.Outcome.the-variants.{Refused as TextRefused}
 use Rattle.text.specs.declared.Written.{Written}
 use Rattle.text.specs.declared.Written.the-variants.{Bytes, Refused as NotWritten}
 use Rattle.text.specs.Read.{Answer, accepted, refused, readText, readingOf, numberOfOutcome, lineOfOutcome, fieldOfOutcome}
@@ -43,7 +44,9 @@ use Rattle.machine.specs.declared.Outcome.the-variants.{Ran, Refused as NotRun}
 use Rattle.machine.specs.declared.FullRun.{FullRun}
 use Rattle.machine.specs.Run.{slotOf, completions, refusedRun, fullRun, numberOfOutcome as numberOfRun}
 use Rattle.runs.specs.Runs.{runText, ranIn, ranInto}
-use Rattle.promises.specs.Demands.{reading, readNumber, due, Texts, Numbers, Nothing, RunNumbers, completed}
+use Rattle.musselpath.specs.Boundary.{instants, answerFor, leftFor, runAnswered, runLeft}
+use Rattle.musselpath.proofs.Answers.{place-comes-out}
+use Rattle.promises.specs.Demands.{reading, textNumber, due, Texts, Numbers, Nothing, RunNumbers, Packed, completed}
 
 -- texts
 
@@ -68,29 +71,29 @@ refused-is s (refused why) e z = (refl, text-refuses s why e .high, line-there (
     line-there (lined k l x g) h = let p : InLines (refused why) = rw e at g in p .first
 
 first-three : (s : List ℕ) → Fared s
-    → ((readNumber s ≡ 1) ↔ (length s ≡ 0))
-    × ((readNumber s ≡ 2) ↔ (longestText < length s))
-    × ((readNumber s ≡ 3) ↔ ((1 ≤ length s) × (length s ≤ longestText) × (getD s (length s - 1) 0 ≡ lineFeed → ⊥)))
+    → ((textNumber s ≡ 1) ↔ (length s ≡ 0))
+    × ((textNumber s ≡ 2) ↔ (longestText < length s))
+    × ((textNumber s ≡ 3) ↔ ((1 ≤ length s) × (length s ≤ longestText) × (getD s (length s - 1) 0 ≡ lineFeed → ⊥)))
 first-three s (empty l e) =
-    let n : readNumber s ≡ 1 = ap number e in
+    let n : textNumber s ≡ 1 = ap number e in
     (((λ z. l), (λ z. n)), ((λ z. omega arith), (λ z. omega arith)), ((λ z. absurd (omega arith)), (λ z. absurd (omega (arith, z .0)))))
 first-three s (long l e) =
-    let n : readNumber s ≡ 2 = ap number e in
+    let n : textNumber s ≡ 2 = ap number e in
     (((λ z. omega arith), (λ z. omega arith)), ((λ z. l), (λ z. n)), ((λ z. absurd (omega arith)), (λ z. absurd (omega (arith, z .1)))))
 first-three s (unended k l g e) =
-    let n : readNumber s ≡ 3 = ap number e in
+    let n : textNumber s ≡ 3 = ap number e in
     (((λ z. omega arith), (λ z. omega arith)), ((λ z. omega arith), (λ z. omega arith)), ((λ z. (k, l, g)), (λ z. n)))
 first-three s (lined k l g h) = go (readText s) refl h
   where
     go : (a : Answer) → readText s ≡ a → InLines a
-        → ((readNumber s ≡ 1) ↔ (length s ≡ 0))
-        × ((readNumber s ≡ 2) ↔ (longestText < length s))
-        × ((readNumber s ≡ 3) ↔ ((1 ≤ length s) × (length s ≤ longestText) × (getD s (length s - 1) 0 ≡ lineFeed → ⊥)))
+        → ((textNumber s ≡ 1) ↔ (length s ≡ 0))
+        × ((textNumber s ≡ 2) ↔ (longestText < length s))
+        × ((textNumber s ≡ 3) ↔ ((1 ≤ length s) × (length s ≤ longestText) × (getD s (length s - 1) 0 ≡ lineFeed → ⊥)))
     go (accepted t) e p =
-        let n : readNumber s ≡ 0 = ap number e in
+        let n : textNumber s ≡ 0 = ap number e in
         (((λ z. omega arith), (λ z. omega arith)), ((λ z. omega arith), (λ z. omega arith)), ((λ z. absurd (omega arith)), (λ z. absurd (z .2 g))))
     go (refused why) e p =
-        let n : readNumber s ≡ numberOf why = ap number e in
+        let n : textNumber s ≡ numberOf why = ap number e in
         (((λ z. omega (arith, p .low)), (λ z. omega arith)), ((λ z. omega (arith, p .low)), (λ z. omega arith)), ((λ z. absurd (omega (arith, p .low))), (λ z. absurd (z .2 g))))
 
 pub demand-1-texts : Texts
@@ -193,14 +196,16 @@ ran-nothing : (b : Bool) (bs d : List ℕ) → (numberOfWritten (if b then NotWr
 ran-nothing true bs d z = refl
 ran-nothing false bs d z = written-nothing true bs d z
 
+refused-same : (a : Answer) (why : Refusal) → readingOf a .outcome ≡ TextRefused why → a ≡ refused why
+refused-same (accepted t) why e = absurd (let z : _≡_ {A = ℕ} 0 1 = cc in omega arith)
+refused-same (refused x) why e = let z : x ≡ why = cc in ap refused z
+
 run-of : (s : List ℕ) (m : ℕ) (d : List ℕ) (a : Answer) → readText s ≡ a
-    → ((number a ≡ 0 → ⊥) → numberOfWritten (ranIn a m d) ≡ number a)
-    × (number a ≡ 0 → numberOfWritten (ranIn a m d) ≡ due true true (leb m mostTicks) (leb (length (runText (tableOf (readingOf a .table)) m)) (length d)))
+    → (number a ≡ 0 → numberOfWritten (ranIn a m d) ≡ due true true (leb m mostTicks) (leb (length (runText (tableOf (readingOf a .table)) m)) (length d)))
     × ((numberOfWritten (ranIn a m d) ≡ 0 → ⊥) → ranInto a m d ≡ d)
-run-of s m d (refused why) e = ((λ z. refl), (λ z. absurd (omega (arith, text-refuses s why e .low))), (λ z. refl))
+run-of s m d (refused why) e = ((λ z. absurd (omega (arith, text-refuses s why e .low))), (λ z. refl))
 run-of s m d (accepted t) e =
     let b = value-back t (table-right t (text-right s t e)) in (
-      (λ z. absurd (z refl)),
       (λ z.
           ran-due m (length (runText t m)) (leb (length (runText t m)) (length d))
           ∙ ap (λ u. due true true (leb m mostTicks) (leb (length (runText u m)) (length d))) (sym b)),
@@ -208,4 +213,51 @@ run-of s m d (accepted t) e =
     )
 
 pub demand-1-runs : RunNumbers
-demand-1-runs s m d = run-of s m d (readText s) refl
+demand-1-runs s m d =
+    let r = run-of s m d (readText s) refl in
+    ((λ why e. ap (λ a. ranIn a m d) (refused-same (readText s) why e)), r .0, r .1)
+
+-- in C
+
+packed-due : (m : ℕ) (k l : ℕ) → (if ltb mostTicks m then 23 else if ltb l k then 22 else 0) ≡ due true true (leb m mostTicks) (leb k l)
+packed-due m k l = go (decLe m mostTicks) (decLe k l)
+  where
+    go : Dec (m ≤ mostTicks) → Dec (k ≤ l) → (if ltb mostTicks m then 23 else if ltb l k then 22 else 0) ≡ due true true (leb m mostTicks) (leb k l)
+    go (yes h) (yes g) = rw (le-ltb mostTicks m h, le-leb m mostTicks h, le-ltb l k g, le-leb k l g)
+    go (yes h) (no g) = rw (le-ltb mostTicks m h, le-leb m mostTicks h, lt-ltb l k (omega arith), lt-leb k l (omega arith))
+    go (no h) g = rw (lt-ltb mostTicks m (omega arith), lt-leb m mostTicks (omega arith))
+
+left-alone : (b c : Bool) (d e : List ℕ) → (_≡_ {A = ℕ} (if b then 23 else if c then 22 else 0) 0 → ⊥) → (if b then d else if c then d else e) ≡ d
+left-alone true c d e z = refl
+left-alone false true d e z = refl
+left-alone false false d e z = absurd (z refl)
+
+packed-of : (s : List ℕ) (m : ℕ) (d : List ℕ) (a : Answer) → readText s ≡ a
+    → (number a ≡ 0 → answerFor a m d ≡ due true true (leb m mostTicks) (leb (length (tableOf (readingOf a .table))) (length d)))
+    × ((answerFor a m d ≡ 0 → ⊥) → leftFor a m d ≡ d)
+packed-of s m d (refused why) e = ((λ z. absurd (omega (arith, text-refuses s why e .low))), (λ z. refl))
+packed-of s m d (accepted t) e =
+    let b = value-back t (table-right t (text-right s t e)) in (
+      (λ z. packed-due m (length t) (length d) ∙ ap (λ u. due true true (leb m mostTicks) (leb (length u) (length d))) (sym b)),
+      left-alone (ltb mostTicks m) (ltb (length d) (length t)) d (over (instants t m) d),
+    )
+
+-- a text with another number than 0 was refused
+pub refused-text : (s : List ℕ) → (textNumber s ≡ 0 → ⊥) → (why : Refusal) × (readText s ≡ refused why)
+refused-text s z = go (readText s) refl z
+  where
+    go : (a : Answer) → readText s ≡ a → (number a ≡ 0 → ⊥) → (why : Refusal) × (readText s ≡ refused why)
+    go (accepted t) e z = absurd (z refl)
+    go (refused why) e z = (why, e)
+
+pub demand-1-packed : Packed
+unfolding runAnswered runLeft
+demand-1-packed s m d =
+    let r = packed-of s m d (readText s) refl in (
+      (λ z.
+          let x = refused-text s z in
+          let c = place-comes-out s (x .0) m d (x .1) in
+          (c .0 ∙ sym (ap number (x .1)), c .1 ∙ sym (ap (λ a. lineOfOutcome (readingOf a .outcome)) (x .1)), c .2 ∙ sym (ap (λ a. fieldOfOutcome (readingOf a .outcome)) (x .1)))),
+      r .0,
+      r .1,
+    )

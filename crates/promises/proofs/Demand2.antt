@@ -1,5 +1,5 @@
 -- Demand 2 of specs/Demands, shown.
-use mathlib.Core.Path.{_≡_, refl, sym, ap, _∙_}
+use mathlib.Core.Path.{_≡_, refl, sym, ap, _∙_, subst}
 use mathlib.Core.Bool.{Bool, true, false, false≢true}
 use mathlib.Core.List.{List, [], _∷_, _++_, map}
 use mathlib.Core.Logic.{_↔_, Iff·trans}
@@ -7,30 +7,29 @@ use mathlib.Core.Option.{Option, none, some, Option·some-injective, Option·non
 use Prim.Native.Nat.{ℕ, zero, suc, _+_, _-_, _≤_, _<_}
 use native.Mathlib.Omega.{arith}
 use native.Mathlib.Decide.{decLe}
-use lib.Dec.{leb}
-use lib.ListN.{length, take, getD, replicate, length-map}
-use lib.Seq.{take-append-seam}
-use borrow.Author.Tests.{le-leb, lt-leb, leb-true}
+use lib.Dec.{leb, ltb}
+use lib.ListN.{length, take, getD, replicate, length-map, length-append, length-replicate}
+use lib.Seq.{take-append-seam, take-all, length-take-le}
+use borrow.Author.Tests.{le-leb, lt-leb, le-ltb}
 use Rattle.words.specs.Choice.{if_then_else_, _and_}
 use Rattle.words.specs.Lists.{all, any, below}
 use Rattle.words.specs.Spelled.{spelled}
 use Rattle.words.specs.Buffer.{over, placed}
 use Rattle.words.proofs.Choice.{if-true, if-false, and-last-false}
-use Rattle.words.proofs.Buffer.{placed-fits}
 use Rattle.words.proofs.Filled.{length-below, filled-at, filled-behind, all-below-each, each-all-below, any-below-some, some-any-below}
 use Rattle.ticks.specs.Ticks.{long}
 use Rattle.ticks.specs.declared.Length.{Length}
 use Rattle.decimal.specs.Decimal.{digits}
 use Rattle.fields.specs.Fields.{line}
 use Rattle.refusals.specs.declared.Refusal.{Refusal}
-use Rattle.refusals.specs.declared.Refusal.the-variants.{BadTable, NoSuchRow, NoRoom}
+use Rattle.refusals.specs.declared.Refusal.the-variants.{BadTable, NoSuchRow, NoRoom, LongText}
 use Rattle.refusals.specs.Refusals.{numberOf, lineOf, fieldOf}
 use Rattle.refused.specs.Refused.{refusedLine}
-use Rattle.table.specs.Limits.{mostRows, longestText}
+use Rattle.table.specs.Limits.{mostRows, longestText, mostTicks}
 use Rattle.table.specs.Paper.{Row, Table, rowAt, Part, part, parts, total, waits, rightRow}
 use Rattle.table.specs.Value.{tableOf, tableValue, wellFormed}
 use Rattle.table.specs.declared.Table.{Table as TableValue}
-use Rattle.table.proofs.Rules.{value-forth, value-back, value-right, table-right}
+use Rattle.table.proofs.Rules.{value-forth, value-back, value-right, table-right, table-size}
 use Rattle.text.specs.declared.Outcome.the-variants.{Accepted}
 use Rattle.text.specs.declared.Reading.{Reading}
 use Rattle.text.specs.declared.Written.{Written}
@@ -40,7 +39,7 @@ use Rattle.text.specs.Write.{tableText, lengthIn, written, writtenInto, numberO
 use Rattle.text.proofs.Back.{text-back, text-right, text-one}
 use Rattle.text.proofs.Forth.{text-forth}
 use Rattle.text.proofs.Fits.{text-fits}
-use Rattle.text.proofs.Numbers.{text-refuses}
+use Rattle.text.proofs.Numbers.{text-refuses, Fared, empty, long as too-many, unended, lined, fared}
 use Rattle.verdicts.specs.Verdicts.{figureOf, fits, misses, overall}
 use Rattle.verdicts.specs.declared.Bound.{Bound}
 use Rattle.verdicts.specs.declared.Bound.the-variants.{Whole, Split}
@@ -54,16 +53,23 @@ use Rattle.figures.specs.declared.RowFigures.{RowFigures}
 use Rattle.figures.specs.declared.Slot.{Slot}
 use Rattle.figures.specs.declared.TableFigures.{TableFigures}
 use Rattle.figures.specs.declared.Answer.the-variants.{Row as RowIs, Refused as NoFigures}
-use Rattle.figures.specs.Fixed.{Smallest}
-use Rattle.figures.specs.Figures.{right, result, rounds, own, whole, plus, split, splitFrom, splitRounds, verdict, withSplit, rowRounds}
+use Rattle.figures.specs.Fixed.{Smallest, Took}
+use Rattle.figures.specs.Figures.{right, result, rounds, own, whole, plus, split, splitFrom, splitRounds, verdict, withSplit, rowRounds, unlessNone}
 use Rattle.figures.specs.Answers.{splitShown, figuresOf, rowAnswer, verdicts, tableVerdict, slotOf, slots, tableFigures}
 use Rattle.figures.proofs.Rows.{sane, one-time, more-times}
+use Rattle.figures.proofs.Verdicts.{stretch-none, stretch-took, whole-took}
 use Rattle.figures.proofs.Verdicts.{split-some, stretch-fixed, whole-fixed, one-fits, one-misses, one-whole, one-open, one-rounds, waiting-whole, waiting-split, waiting-open, waiting-misses}
-use Rattle.report.specs.Report.{reportText, answerTo, answerText}
+use Rattle.report.specs.Report.{reportText, answerTo, answerText, reported, reportedInto, longestReport}
 use Rattle.report.proofs.Fits.{answer-fits}
-use Rattle.promises.specs.Demands.{reading, readNumber, row, f, Told, Added, no-more, one-more, TextBack, OneText, TableBack, Answered, Given, WholeBound, SplitBound, OneStretch, WaitingRow, Rounds, TableVerdict}
+use Rattle.runs.specs.Runs.{runText, ranIn, ranInto, longestRun}
+use Rattle.runs.proofs.Fits.{run-fits}
+use Rattle.musselpath.specs.Boundary.{instants, answerFor, leftFor, runAnswered, runLeft}
+use Rattle.promises.specs.Demands.{reading, textNumber, answeredIn, answeredInto, due, row, f, Told, Added, no-more, one-more}
+use Rattle.promises.specs.Demands.{TookSplit, none-left, passed, next-one, TextBack, OneText, TableBack, Reported, Answered, AnswerRoom, RunWritten}
+use Rattle.promises.specs.Demands.{Given, WholeBound, SplitBound, OneStretch, WaitingRow, Rounds, TableJudged}
 use Rattle.promises.proofs.Finish.{Positive}
 use Rattle.promises.proofs.Proper.{positive}
+use Rattle.promises.proofs.Demand1.{refused-text}
 use Rattle.promises.proofs.Told.{Asked, asked, told, right-table, there, right-rows}
 
 never : {A : Type 0} → _≡_ {A = ℕ} 0 1 → A
@@ -72,20 +78,12 @@ never e = absurd (omega arith)
 -- texts
 
 -- a text with the number 0 was accepted
-accepted-text : (s : List ℕ) → readNumber s ≡ 0 → (t : Table) × (readText s ≡ accepted t)
+accepted-text : (s : List ℕ) → textNumber s ≡ 0 → (t : Table) × (readText s ≡ accepted t)
 accepted-text s z = go (readText s) refl z
   where
     go : (a : Answer) → readText s ≡ a → numberOfOutcome (readingOf a .outcome) ≡ 0 → (t : Table) × (readText s ≡ accepted t)
     go (accepted t) e z = (t, e)
     go (refused why) e z = absurd (omega (arith, text-refuses s why e .low))
-
--- one with another number was refused
-refused-text : (s : List ℕ) → (readNumber s ≡ 0 → ⊥) → (why : Refusal) × (readText s ≡ refused why)
-refused-text s z = go (readText s) refl z
-  where
-    go : (a : Answer) → readText s ≡ a → (numberOfOutcome (readingOf a .outcome) ≡ 0 → ⊥) → (why : Refusal) × (readText s ≡ refused why)
-    go (accepted t) e z = absurd (z refl)
-    go (refused why) e z = (why, e)
 
 -- the table of an accepted text
 text-table : (s : List ℕ) (t : Table) → readText s ≡ accepted t → reading s .table ≡ tableValue t
@@ -100,7 +98,7 @@ demand-2-text s d z =
     let w : wellFormed (reading s .table) ≡ true = ap wellFormed (text-table s t (x .1)) ∙ value-right t r in
     let b : tableText (tableOf (reading s .table)) ≡ s
     = ap (λ v. tableText (tableOf v)) (text-table s t (x .1)) ∙ ap tableText (value-back t (table-right t r)) ∙ text-back s t (x .1) in
-    (if-true _ _ w ∙ ap (λ l. lengthIn l d) b, if-true _ _ w ∙ ap (λ l. placed l d) b)
+    (sym b, if-true _ _ w ∙ ap (λ l. lengthIn l d) b, if-true _ _ w ∙ ap (λ l. placed l d) b)
 
 pub demand-2-one : OneText
 demand-2-one s r y z e =
@@ -138,21 +136,41 @@ demand-2-table v d = (back, room)
         let l : length (tableText (tableOf v)) ≤ length d = omega (arith, text-fits (tableOf v) (value-forth v ok .1)) in
         ap numberOfWritten (if-true _ _ ok ∙ if-true _ _ (le-leb _ (length d) l))
 
+pub demand-2-report : Reported
+unfolding reported reportedInto
+demand-2-report v d ok = (if-true _ _ ok, if-true _ _ ok)
+
 pub demand-2-answer : Answered
 unfolding answerText refusedLine
-demand-2-answer s = (right, wrong, (λ d h. placed-fits (answerText s) d (omega (arith, answer-fits s))))
+demand-2-answer s = (right, wrong, cut (decLe (length s) (longestText + 1)))
   where
-    right : readNumber s ≡ 0 → answerText s ≡ reportText (tableOf (reading s .table))
+    right : textNumber s ≡ 0 → answerText s ≡ reportText (tableOf (reading s .table))
     right z =
         let x = accepted-text s z in
         let t = x .0 in
         ap answerTo (x .1) ∙ ap reportText (sym (ap tableOf (text-table s t (x .1)) ∙ value-back t (table-right t (text-right s t (x .1)))))
 
+    -- of a text that is too long nothing but its length is looked at
+    too-long : (r : List ℕ) → longestText < length r → readText r ≡ refused LongText
+    too-long r h = go (fared r)
+      where
+        go : Fared r → readText r ≡ refused LongText
+        go (empty l e) = absurd (omega arith)
+        go (too-many l e) = e
+        go (unended k l g e) = absurd (omega arith)
+        go (lined k l g e) = absurd (omega arith)
+
+    cut : Dec (length s ≤ longestText + 1) → answerText (take (longestText + 1) s) ≡ answerText s
+    cut (yes h) = ap answerText (take-all (longestText + 1) s h)
+    cut (no h) =
+        let l : length (take (longestText + 1) s) ≡ longestText + 1 = length-take-le (longestText + 1) s (omega arith) in
+        ap answerTo (too-long (take (longestText + 1) s) (omega arith) ∙ sym (too-long s (omega arith)))
+
     line-of : (why : Refusal) → Reading → List ℕ
     line-of why r = line (spelled "refused") (digits (numberOfOutcome (r .outcome)) ∷ digits (lineOfOutcome (r .outcome)) ∷ digits (fieldOfOutcome (r .outcome)) ∷ [])
 
-    wrong : (readNumber s ≡ 0 → ⊥)
-        → answerText s ≡ line (spelled "refused") (digits (readNumber s) ∷ digits (lineOfOutcome (reading s .outcome)) ∷ digits (fieldOfOutcome (reading s .outcome)) ∷ [])
+    wrong : (textNumber s ≡ 0 → ⊥)
+        → answerText s ≡ line (spelled "refused") (digits (textNumber s) ∷ digits (lineOfOutcome (reading s .outcome)) ∷ digits (fieldOfOutcome (reading s .outcome)) ∷ [])
     wrong z =
         let x = refused-text s z in
         let why = x .0 in
@@ -161,14 +179,67 @@ demand-2-answer s = (right, wrong, (λ d h. placed-fits (answerText s) d (omega 
         ∙ ap (λ l. line (spelled "refused") (digits (numberOf why) ∷ l)) (if-false [] (digits (lineOf why) ∷ digits (fieldOf why) ∷ []) (lt-leb 20 (numberOf why) (omega arith)))
         ∙ sym (ap (λ a. line-of why (readingOf a)) (x .1))
 
+pub demand-2-room : AnswerRoom
+unfolding placed
+demand-2-room s d = (number, nothing, room)
+  where
+    number : numberOfWritten (answeredIn s d) ≡ due true true true (leb (length (answerText s)) (length d))
+    number = go (leb (length (answerText s)) (length d))
+      where
+        go : (c : Bool) → numberOfWritten (if c then Bytes (length (answerText s)) else NotWritten NoRoom) ≡ due true true true c
+        go true = refl
+        go false = refl
+
+    nothing : (numberOfWritten (answeredIn s d) ≡ 0 → ⊥) → answeredInto s d ≡ d
+    nothing = go (leb (length (answerText s)) (length d))
+      where
+        go : (c : Bool) → (numberOfWritten (if c then Bytes (length (answerText s)) else NotWritten NoRoom) ≡ 0 → ⊥) → (if c then over (answerText s) d else d) ≡ d
+        go true z = absurd (z refl)
+        go false z = refl
+
+    room : longestReport ≤ length d → (answeredIn s d ≡ Bytes (length (answerText s))) × (answeredInto s d ≡ over (answerText s) d)
+    room h =
+        let l : leb (length (answerText s)) (length d) ≡ true = le-leb _ (length d) (omega (arith, answer-fits s)) in
+        (if-true _ _ l, if-true _ _ l)
+
+pub demand-2-run : RunWritten
+unfolding runLeft runAnswered
+demand-2-run s m d z few =
+    let x = accepted-text s z in
+    let t = x .0 in
+    let r = text-right s t (x .1) in
+    let b : t ≡ tableOf (reading s .table) = sym (ap tableOf (text-table s t (x .1)) ∙ value-back t (table-right t r)) in
+    let l = le-ltb mostTicks m few in
+    let written-is : ranIn (readText s) m d ≡ lengthIn (runText t m) d = ap (λ a. ranIn a m d) (x .1) ∙ if-false _ _ l in (
+      written-is ∙ ap (λ u. lengthIn (runText u m) d) b,
+      ap (λ a. ranInto a m d) (x .1) ∙ if-false _ _ l ∙ ap (λ u. placed (runText u m) d) b,
+      (λ h. (let k : length (runText t m) ≤ length d = omega (arith, run-fits t m r few) in ap numberOfWritten (written-is ∙ if-true _ _ (le-leb _ (length d) k)))),
+      (λ e. ap (λ a. leftFor a m d) (x .1) ∙ if-false _ _ l ∙ elements (ltb (length d) (length t)) (instants t m) d (sym (ap (λ a. answerFor a m d) (x .1) ∙ if-false _ _ l) ∙ e) ∙ ap (λ u. over (instants u m) d) b),
+    )
+  where
+    elements : (c : Bool) (xs d : List ℕ) → _≡_ {A = ℕ} (if c then 22 else 0) 0 → (if c then d else over xs d) ≡ over xs d
+    elements true xs d e = absurd (omega arith)
+    elements false xs d e = refl
+
 -- figures
 
 pub demand-2-given : Given
 unfolding tableFigures slots rowAnswer
-demand-2-given v ok = ((λ n h l. (figuresOf (rowAt (tableOf v)) (n - 1), told v n ok h l)), at)
+demand-2-given v ok = ((λ n h l. (figuresOf (rowAt (tableOf v)) (n - 1), told v n ok h l)), sixteen, at)
   where
     t : Table
     t = tableOf v
+
+    answers : ℕ → Slot
+    answers k = slotOf (RowIs (figuresOf (rowAt t) k))
+
+    sixteen : length (tableFigures v .rows) ≡ mostRows
+    sixteen =
+        let a : length (map answers (below (length t))) ≡ length t = length-map (below (length t)) answers ∙ length-below (length t) in
+        let b : length (replicate (mostRows - length t) (slotOf (NoFigures NoSuchRow))) ≡ mostRows - length t = length-replicate (mostRows - length t) _ in
+        ap (λ (x : TableFigures). length (x .rows)) (if-true _ _ ok)
+        ∙ length-append (map answers (below (length t))) (replicate (mostRows - length t) (slotOf (NoFigures NoSuchRow)))
+        ∙ omega (arith, table-size t (value-forth v ok .1) .1)
 
     at : (n : ℕ) → 1 ≤ n → n ≤ mostRows → getD (tableFigures v .rows) (n - 1) (slotOf (NoFigures NoSuchRow)) .answer ≡ rowAnswer v n
     at n h l = ap (λ (x : TableFigures). getD (x .rows) (n - 1) (slotOf (NoFigures NoSuchRow)) .answer) (if-true _ _ ok) ∙ go (decLe n (length t))
@@ -195,6 +266,10 @@ figure-no (some x) = ((λ e. never (cc)), (λ e. never (cc)))
 same : {A : Type 0} {x y z : A} → x ≡ y → (x ≡ z) ↔ (y ≡ z)
 same p = ((λ e. sym p ∙ e), (λ e. p ∙ e))
 
+-- the rounds of whole
+abbrev wholeRounds : TableValue → ℕ → ℕ
+wholeRounds v n = rounds (f v n (own (row v n))) (row v n .deadline) (own (row v n))
+
 module _ (v : TableValue) (n : ℕ) (a : RowFigures) (q : Asked v n a) where
   rules : (i : ℕ) → i ≤ n - 1 → rightRow (rowAt (tableOf v) i) ≡ true
   rules = right-rows v n a q
@@ -218,7 +293,7 @@ module _ (v : TableValue) (n : ℕ) (a : RowFigures) (q : Asked v n a) where
     rounds-one : a .rounds ≡ rounds (f v n (own (row v n))) (row v n .deadline) (own (row v n))
     rounds-one =
         ap (λ (x : RowFigures). x .rounds) (q .is)
-        ∙ ap (λ l. withSplit (parts l) (rounds (f v n (own (row v n))) (row v n .deadline) (own (row v n))) (splitRounds (rowAt (tableOf v)) (n - 1) (parts (row v n .times))))
+        ∙ ap (λ l. withSplit (parts l) (wholeRounds v n) (splitRounds (rowAt (tableOf v)) (n - 1) (parts (row v n .times))))
         (one-time (row v n) (rules (n - 1) (omega arith)) one .1)
 
   -- a waiting row
@@ -234,11 +309,29 @@ module _ (v : TableValue) (n : ℕ) (a : RowFigures) (q : Asked v n a) where
     split-no : (a .split ≡ No) ↔ (split (rowAt (tableOf v)) (n - 1) ≡ none)
     split-no = Iff·trans (same split-there) (figure-no (split (rowAt (tableOf v)) (n - 1)))
 
-    rounds-more : a .rounds ≡ rounds (f v n (own (row v n))) (row v n .deadline) (own (row v n)) + splitRounds (rowAt (tableOf v)) (n - 1) (parts (row v n .times))
+    rounds-more : a .rounds ≡ wholeRounds v n + splitRounds (rowAt (tableOf v)) (n - 1) (parts (row v n .times))
     rounds-more =
         ap (λ (x : RowFigures). x .rounds) (q .is)
-        ∙ ap (λ l. withSplit (parts l) (rounds (f v n (own (row v n))) (row v n .deadline) (own (row v n))) (splitRounds (rowAt (tableOf v)) (n - 1) (parts (row v n .times))))
+        ∙ ap (λ l. withSplit (parts l) (wholeRounds v n) (splitRounds (rowAt (tableOf v)) (n - 1) (parts (row v n .times))))
         (more-times (row v n) (rules (n - 1) (omega arith)) more .4)
+
+  -- so often the right side is worked out for the stretches by themselves
+  took-split : (m : List Part) → Positive m → total m ≤ row v n .deadline → TookSplit v n m (splitRounds (rowAt (tableOf v)) (n - 1) m)
+  took-split [] h le = none-left
+  took-split (part s c ∷ m) h le =
+      go (result (f v n c) (row v n .deadline) c) refl (took-split m (h .1) (omega arith))
+    where
+      took : Took (f v n c) (row v n .deadline) c (rounds (f v n c) (row v n .deadline) c)
+      took = stretch-took (rowAt (tableOf v)) (n - 1) rules c (h .0) (omega arith)
+
+      go : (o : Option ℕ) → result (f v n c) (row v n .deadline) c ≡ o → TookSplit v n m (splitRounds (rowAt (tableOf v)) (n - 1) m)
+          → TookSplit v n (part s c ∷ m) (rounds (f v n c) (row v n .deadline) c + unlessNone o (splitRounds (rowAt (tableOf v)) (n - 1) m))
+      go none e ih =
+          let z : rounds (f v n c) (row v n .deadline) c ≡ rounds (f v n c) (row v n .deadline) c + 0 = omega arith in
+          subst (TookSplit v n (part s c ∷ m)) z (passed took (stretch-none (rowAt (tableOf v)) (n - 1) rules c (h .0) (omega arith) .0 e))
+      go (some R) e ih =
+          let fix = stretch-fixed (rowAt (tableOf v)) (n - 1) rules c (h .0) (omega arith) R .0 e in
+          next-one R took (fix .0) (fix .1) ih
 
   -- what the stretches by themselves come to is the sum of their fixed points and the suspensions
   module _ where
@@ -317,12 +410,21 @@ demand-2-waiting v n a e more =
 
 pub demand-2-rounds : Rounds
 demand-2-rounds v n a e =
-    let q = asked v n a e in (
+    let q = asked v n a e in
+    let r = right-rows v n a q in
+    let t = whole-took (rowAt (tableOf v)) (n - 1) r in (
       (λ one.
           let z = rounds-one v n a q one in
           let y : a .rounds ≡ rowRounds (rowAt (tableOf v)) (n - 1) = ap (λ (x : RowFigures). x .rounds) (q .is) in
-          (z, omega (arith, one-rounds (rowAt (tableOf v)) (n - 1) (right-rows v n a q) one))),
-      (λ more. rounds-more v n a q more),
+          (subst (Took (f v n (own (row v n))) (row v n .deadline) (own (row v n))) (sym z) t, omega (arith, one-rounds (rowAt (tableOf v)) (n - 1) r one))),
+      (λ more.
+          let x = r (n - 1) (omega arith) in (
+            wholeRounds v n,
+            splitRounds (rowAt (tableOf v)) (n - 1) (parts (row v n .times)),
+            rounds-more v n a q more,
+            t,
+            took-split v n a q (parts (row v n .times)) (positive (row v n) x) (sane (row v n) x .own-fits),
+          )),
     )
 
 -- the table's verdict
@@ -391,7 +493,7 @@ module _ (v : TableValue) (ok : wellFormed v ≡ true) where
       let x = misses-some .0 m in
       not-both (x .1 .verdict) (fits-all .0 e (x .0) (x .1) (x .2)) (ap misses (x .3)))
 
-pub demand-2-verdict : TableVerdict
+pub demand-2-verdict : TableJudged
 demand-2-verdict v ok =
     let o = overall-is v ok in
     let fa = fits-all v ok in

@@ -2,12 +2,14 @@
 use mathlib.Core.Path.{_≡_, refl, sym, ap, _∙_}
 use mathlib.Core.Bool.{true, false}
 use mathlib.Core.List.{List, [], _∷_}
+use mathlib.Core.Logic.{_↔_}
 use mathlib.Core.Option.{Option, none, some}
 use Prim.Native.Nat.{ℕ, _+_, _-_, _≤_, _<_}
 use native.Mathlib.Omega.{arith}
 use native.Mathlib.Decide.{decLe}
 use lib.ListN.{length, getD}
 use Rattle.words.proofs.Filled.{filled-at}
+use Rattle.ticks.specs.Ticks.{instant}
 use Rattle.ticks.specs.declared.Length.{Length}
 use Rattle.ticks.specs.declared.Instant.{Instant}
 use Rattle.table.specs.Limits.{mostTicks}
@@ -30,7 +32,7 @@ use Rattle.machine.specs.declared.FullRun.{FullRun}
 use Rattle.machine.specs.declared.Slot.{Slot}
 use Rattle.machine.specs.Run.{slotOf, completions, fullRun}
 use Rattle.machine.proofs.Completions.{run-there}
-use Rattle.promises.specs.Demands.{row, Told, Added, no-more, one-more, completed, InTime, FullRunLegal, Exact, Missed}
+use Rattle.promises.specs.Demands.{row, Told, Added, no-more, one-more, completed, InTime, FullRunLegal, Ended, Exact, Missed}
 use Rattle.promises.proofs.Fits.{fits-deadline, fits-in-time}
 use Rattle.promises.proofs.Exact.{full-legal, exact-before, exact-from, exact-misses}
 use Rattle.promises.proofs.Told.{Asked, asked, right-table, there, right-rows}
@@ -123,19 +125,37 @@ demand-3-exact v n a h one b R x = (reach, at)
         let s = completed-is v m n (q .good) l y in
         ((λ l. s ∙ ap (λ o. slotOf o .first) (c .0 l)), (λ l. s ∙ ap (λ o. slotOf o .first) (c .1 l)))
 
+first-some : (o : Option ℕ) (c : ℕ) → (slotOf o .first ≡ At (instant c)) ↔ (o ≡ some c)
+first-some (some x) c = ((λ f. (let z : instant x ≡ instant c = cc in ap (λ (i : Instant). some (i .0)) z)), (λ e. ap (λ o. slotOf o .first) e))
+first-some none c = ((λ f. absurd (let z : _≡_ {A = ℕ} 0 1 = cc in omega arith)), (λ e. absurd (let z : _≡_ {A = ℕ} 0 1 = cc in omega arith)))
+
+first-none : (o : Option ℕ) → (slotOf o .first ≡ Not) ↔ ((c : ℕ) → o ≡ some c → ⊥)
+first-none (some x) = ((λ f. absurd (let z : _≡_ {A = ℕ} 0 1 = cc in omega arith)), (λ h. absurd (h x refl)))
+first-none none = ((λ f c e. (let z : _≡_ {A = ℕ} 0 1 = cc in omega arith)), (λ h. refl))
+
+pub demand-3-ended : Ended
+demand-3-ended v ok m n l h k =
+    let s = completed-is v m n ok l (omega arith) in
+    let o = completion (rowAt (tableOf v)) (n - 1) m in
+    let same = completion-same (rowAt (tableOf v)) (n - 1) m in (
+      (λ c. ((λ e. same c .0 (first-some o c .0 (sym s ∙ e))), (λ e. s ∙ first-some o c .1 (same c .1 e)))),
+      ((λ e c z. first-none o .0 (sym s ∙ e) c (same c .1 z)), (λ e. s ∙ first-none o .1 (λ c z. e c (same c .0 z)))),
+    )
+
 pub demand-3-missed : Missed
-demand-3-missed v n a h one x m l c e =
+demand-3-missed v n a h one x =
     let q = asked v n a h in
     let t = tableOf v in
     let y = there v n a q in
-    let f = completion-same (rowAt t) (n - 1) m (c .0) .0 (first-some _ c (sym (completed-is v m n (q .good) l y) ∙ e)) in
-    late (decLe (c .0) (row v n .deadline))
-    (λ h. exact-misses t (right-table v n a q) (n - 1) y one (sym (verdict-is v n a q) ∙ x) (c .0) (f .ticked) h (complete-same 0 (after (full (rowAt t)) (c .0) (n - 1)) .1 (f .ended)))
+    let r = sane (row v n) (right-rows v n a q (n - 1) (omega arith)) in
+    let misses = exact-misses t (right-table v n a q) (n - 1) y one (sym (verdict-is v n a q) ∙ x) in (
+      misses (row v n .deadline) (omega (arith, r .own-some, r .own-fits)) (omega arith),
+      (λ m l c e.
+          let f = completion-same (rowAt t) (n - 1) m (c .0) .0 (first-some _ (c .0) .0 (sym (completed-is v m n (q .good) l y) ∙ e)) in
+          late (c .0) (row v n .deadline) (decLe (c .0) (row v n .deadline))
+          (λ h. misses (c .0) (f .ticked) h (complete-same 0 (after (full (rowAt t)) (c .0) (n - 1)) .1 (f .ended)))),
+    )
   where
-    first-some : (o : Option ℕ) (c : Instant) → slotOf o .first ≡ At c → o ≡ some (c .0)
-    first-some (some x) c f = let z : record { 0 = x } ≡ c = cc in ap (λ (i : Instant). some (i .0)) z
-    first-some none c f = absurd (let z : _≡_ {A = ℕ} 0 1 = cc in omega arith)
-
-    late : Dec (c .0 ≤ row v n .deadline) → (c .0 ≤ row v n .deadline → ⊥) → row v n .deadline < c .0
-    late (yes h) no-way = absurd (no-way h)
-    late (no h) no-way = omega arith
+    late : (c d : ℕ) → Dec (c ≤ d) → (c ≤ d → ⊥) → d < c
+    late c d (yes h) no-way = absurd (no-way h)
+    late c d (no h) no-way = omega arith

@@ -1,7 +1,7 @@
 -- THE THREE DEMANDS, about the meanings of the public functions, for every input. proofs/Demands shows each of them.
 -- text::read is `reading`, text::write is `written` and `writtenInto`, figures::row_figures is `rowAnswer`, figures::table_figures is
--- `tableFigures`, report::write is `reported` and `reportedInto`, report::answer is `answerText`, machine::full_run is `fullRun`, runs::answer is `ranIn` and
--- `ranInto`: the contracts say so.
+-- `tableFigures`, report::write is `reported` and `reportedInto`, report::answer is `answeredIn` and `answeredInto`, machine::full_run is
+-- `fullRun`, runs::answer is `ranIn` and `ranInto`, the C functions are `fitted` and `placed` of `answerText`, `runAnswered` and `runLeft`: the contracts say so.
 use mathlib.Core.Path.{_≡_}
 use mathlib.Core.Bool.{Bool, true, false}
 use mathlib.Core.List.{List, [], _∷_}
@@ -23,9 +23,11 @@ use Rattle.table.specs.Limits.{mostRows, longestText, mostTicks}
 use Rattle.table.specs.Paper.{Row, rowAt, Part, part, parts, waits}
 use Rattle.table.specs.Value.{tableOf, emptyTable, wellFormed}
 use Rattle.table.specs.declared.Table.{Table as TableValue}
-use Rattle.text.specs.declared.Outcome.the-variants.{Accepted}
+use Rattle.refusals.specs.declared.Refusal.{Refusal}
+use Rattle.text.specs.declared.Outcome.the-variants.{Accepted, Refused as TextRefused}
 use Rattle.text.specs.declared.Reading.{Reading}
-use Rattle.text.specs.declared.Written.the-variants.{Bytes}
+use Rattle.text.specs.declared.Written.{Written}
+use Rattle.text.specs.declared.Written.the-variants.{Bytes, Refused as NotWritten}
 use Rattle.text.specs.Read.{readText, readingOf, numberOfOutcome, lineOfOutcome, fieldOfOutcome}
 use Rattle.text.specs.Write.{tableText, lengthIn, written, writtenInto, numberOfWritten}
 use Rattle.verdicts.specs.Verdicts.{fits}
@@ -36,15 +38,17 @@ use Rattle.verdicts.specs.declared.Verdict.the-variants.{Fits, Misses, Open}
 use Rattle.verdicts.specs.declared.TableVerdict.the-variants.{Fits as TableFits, Misses as TableMisses, Open as TableOpen}
 use Rattle.figures.specs.declared.RowFigures.{RowFigures}
 use Rattle.figures.specs.declared.Answer.the-variants.{Row as RowIs, Refused as NoFigures}
-use Rattle.figures.specs.Fixed.{Smallest, NoneUpTo}
-use Rattle.figures.specs.Figures.{right, rounds, own, splitRounds}
+use Rattle.figures.specs.Fixed.{Smallest, NoneUpTo, Took}
+use Rattle.figures.specs.Figures.{right, own}
 use Rattle.figures.specs.Answers.{rowAnswer, slotOf, refusedFigures, tableFigures, numberOfAnswer, numberOfVerdict}
 use Rattle.report.specs.Report.{reportText, answerText, reported, reportedInto, longestReport}
 use Rattle.kernel.specs.Rules.{Input, LegalRun, after, full, Complete}
+use Rattle.kernel.specs.Numbers.{FirstEnd}
 use Rattle.machine.specs.declared.First.{First}
 use Rattle.machine.specs.declared.First.the-variants.{At, Not}
 use Rattle.machine.specs.Run.{noSlot, fullRun, numberOfOutcome as numberOfRun}
-use Rattle.runs.specs.Runs.{runText, ranIn, ranInto}
+use Rattle.runs.specs.Runs.{runText, ranIn, ranInto, longestRun}
+use Rattle.musselpath.specs.Boundary.{instants, numberIn, lineIn, fieldIn, runAnswered, runLeft}
 
 -- ---- the words of this page; rows are counted from 1
 
@@ -53,8 +57,16 @@ abbrev pub reading : List ℕ → Reading
 reading s = readingOf (readText s)
 
 -- the number of that: 0 where the text is accepted
-abbrev pub readNumber : List ℕ → ℕ
-readNumber s = numberOfOutcome (reading s .outcome)
+abbrev pub textNumber : List ℕ → ℕ
+textNumber s = numberOfOutcome (reading s .outcome)
+
+-- what is answered for the answer to a text and a lent buffer: its length, or 22
+abbrev pub answeredIn : List ℕ → List ℕ → Written
+answeredIn s d = lengthIn (answerText s) d
+
+-- what is left in the buffer
+abbrev pub answeredInto : List ℕ → List ℕ → List ℕ
+answeredInto s d = placed (answerText s) d
 
 -- row n of a table value, on paper
 abbrev pub row : TableValue → ℕ → Row
@@ -77,11 +89,11 @@ completed v m n = getD (fullRun v m .rows) (n - 1) noSlot .first
 -- a text: accepted, at line 0, field 0, or refused by 1 to 11, from 4 on at a line, with an empty table. 1, 2 and 3 are given exactly when they are due
 abbrev pub Texts : Type 0
 Texts = (s : List ℕ)
-    → (readNumber s ≡ 0 → (wellFormed (reading s .table) ≡ true) × (lineOfOutcome (reading s .outcome) ≡ 0) × (fieldOfOutcome (reading s .outcome) ≡ 0))
-    × ((readNumber s ≡ 0 → ⊥) → (reading s .table ≡ emptyTable) × (readNumber s ≤ 11) × (4 ≤ readNumber s → 1 ≤ lineOfOutcome (reading s .outcome)))
-    × ((readNumber s ≡ 1) ↔ (length s ≡ 0))
-    × ((readNumber s ≡ 2) ↔ (longestText < length s))
-    × ((readNumber s ≡ 3) ↔ ((1 ≤ length s) × (length s ≤ longestText) × (getD s (length s - 1) 0 ≡ lineFeed → ⊥)))
+    → (textNumber s ≡ 0 → (wellFormed (reading s .table) ≡ true) × (lineOfOutcome (reading s .outcome) ≡ 0) × (fieldOfOutcome (reading s .outcome) ≡ 0))
+    × ((textNumber s ≡ 0 → ⊥) → (reading s .table ≡ emptyTable) × (textNumber s ≤ 11) × (4 ≤ textNumber s → 1 ≤ lineOfOutcome (reading s .outcome)))
+    × ((textNumber s ≡ 1) ↔ (length s ≡ 0))
+    × ((textNumber s ≡ 2) ↔ (longestText < length s))
+    × ((textNumber s ≡ 3) ↔ ((1 ≤ length s) × (length s ≤ longestText) × (getD s (length s - 1) 0 ≡ lineFeed → ⊥)))
 
 -- the number that is due: 20 where the table is bad, then 21 where the row isn't there, 23 where the ticks are too many, 22 where there is no room
 abbrev pub due : Bool → Bool → Bool → Bool → ℕ
@@ -104,23 +116,33 @@ Nothing = (v : TableValue)
     × ((d : List ℕ) → (numberOfWritten (written v d) ≡ 0 → ⊥) → writtenInto v d ≡ d)
     × ((d : List ℕ) → (numberOfWritten (reported v d) ≡ 0 → ⊥) → reportedInto v d ≡ d)
 
--- the full run of a text: the number of the text, then 23 before 22; behind a number the lent bytes are as they were
+-- the full run of a text: the text's own refusal, then 23 before 22; behind a number the lent bytes are as they were
 abbrev pub RunNumbers : Type 0
 RunNumbers = (s : List ℕ) (m : ℕ) (d : List ℕ)
-    → ((readNumber s ≡ 0 → ⊥) → numberOfWritten (ranIn (readText s) m d) ≡ readNumber s)
-    × (readNumber s ≡ 0
+    → ((why : Refusal) → reading s .outcome ≡ TextRefused why → ranIn (readText s) m d ≡ NotWritten why)
+    × (textNumber s ≡ 0
     → numberOfWritten (ranIn (readText s) m d) ≡ due true true (leb m mostTicks) (leb (length (runText (tableOf (reading s .table)) m)) (length d)))
     × ((numberOfWritten (ranIn (readText s) m d) ≡ 0 → ⊥) → ranInto (readText s) m d ≡ d)
 
+-- in C: 0, or number, line and field of the text's refusal, or 23 before 22; behind a number the lent elements are as they were
+abbrev pub Packed : Type 0
+Packed = (s : List ℕ) (m : ℕ) (d : List ℕ)
+    → ((textNumber s ≡ 0 → ⊥)
+    → (numberIn (runAnswered s m d) ≡ textNumber s)
+    × (lineIn (runAnswered s m d) ≡ lineOfOutcome (reading s .outcome)) × (fieldIn (runAnswered s m d) ≡ fieldOfOutcome (reading s .outcome)))
+    × (textNumber s ≡ 0 → runAnswered s m d ≡ due true true (leb m mostTicks) (leb (length (tableOf (reading s .table))) (length d)))
+    × ((runAnswered s m d ≡ 0 → ⊥) → runLeft s m d ≡ d)
+
 -- ---- 2: texts read, write back and are answered; figures are the published recurrence's
 
--- an accepted text is written back byte for byte
+-- an accepted text is the text of its table, and is written back byte for byte
 abbrev pub TextBack : Type 0
-TextBack = (s d : List ℕ) → readNumber s ≡ 0 → (written (reading s .table) d ≡ lengthIn s d) × (writtenInto (reading s .table) d ≡ placed s d)
+TextBack = (s d : List ℕ) → textNumber s ≡ 0
+    → (s ≡ tableText (tableOf (reading s .table))) × (written (reading s .table) d ≡ lengthIn s d) × (writtenInto (reading s .table) d ≡ placed s d)
 
 -- a table has exactly one text
 abbrev pub OneText : Type 0
-OneText = (s r : List ℕ) → readNumber s ≡ 0 → readNumber r ≡ 0 → reading s .table ≡ reading r .table → s ≡ r
+OneText = (s r : List ℕ) → textNumber s ≡ 0 → textNumber r ≡ 0 → reading s .table ≡ reading r .table → s ≡ r
 
 -- what was written of a table reads as the same table; a buffer for the longest text has room for each
 abbrev pub TableBack : Type 0
@@ -128,18 +150,40 @@ TableBack = (v : TableValue) (d : List ℕ)
     → ((m : ℕ) → written v d ≡ Bytes m → reading (take m (writtenInto v d)) ≡ record { outcome = Accepted; table = v })
     × (wellFormed v ≡ true → longestText ≤ length d → numberOfWritten (written v d) ≡ 0)
 
--- the answer to a text is the report of its table, or the line of its refusal; a buffer for the longest report has room for each
+-- a report is written whole, and the bytes beyond it are as they were
+abbrev pub Reported : Type 0
+Reported = (v : TableValue) (d : List ℕ) → wellFormed v ≡ true
+    → (reported v d ≡ lengthIn (reportText (tableOf v)) d) × (reportedInto v d ≡ placed (reportText (tableOf v)) d)
+
+-- the answer to a text is the report of its table, or the line of its refusal, whatever the text has beyond the 1,361st byte
 abbrev pub Answered : Type 0
 Answered = (s : List ℕ)
-    → (readNumber s ≡ 0 → answerText s ≡ reportText (tableOf (reading s .table)))
-    × ((readNumber s ≡ 0 → ⊥)
-    → answerText s ≡ line (spelled "refused") (digits (readNumber s) ∷ digits (lineOfOutcome (reading s .outcome)) ∷ digits (fieldOfOutcome (reading s .outcome)) ∷ []))
-    × ((d : List ℕ) → longestReport ≤ length d → placed (answerText s) d ≡ over (answerText s) d)
+    → (textNumber s ≡ 0 → answerText s ≡ reportText (tableOf (reading s .table)))
+    × ((textNumber s ≡ 0 → ⊥)
+    → answerText s
+    ≡ line (spelled "refused") (digits (textNumber s) ∷ digits (lineOfOutcome (reading s .outcome)) ∷ digits (fieldOfOutcome (reading s .outcome)) ∷ []))
+    × (answerText (take (longestText + 1) s) ≡ answerText s)
+
+-- its only refusal is 22, and then no lent byte has changed; a buffer for the longest report has room for each
+abbrev pub AnswerRoom : Type 0
+AnswerRoom = (s d : List ℕ)
+    → (numberOfWritten (answeredIn s d) ≡ due true true true (leb (length (answerText s)) (length d)))
+    × ((numberOfWritten (answeredIn s d) ≡ 0 → ⊥) → answeredInto s d ≡ d)
+    × (longestReport ≤ length d → (answeredIn s d ≡ Bytes (length (answerText s))) × (answeredInto s d ≡ over (answerText s) d))
+
+-- the full run of an accepted text is written whole, in C as numbers; a buffer for the longest run has room for each
+abbrev pub RunWritten : Type 0
+RunWritten = (s : List ℕ) (m : ℕ) (d : List ℕ) → textNumber s ≡ 0 → m ≤ mostTicks
+    → (ranIn (readText s) m d ≡ lengthIn (runText (tableOf (reading s .table)) m) d)
+    × (ranInto (readText s) m d ≡ placed (runText (tableOf (reading s .table)) m) d)
+    × (longestRun ≤ length d → numberOfWritten (ranIn (readText s) m d) ≡ 0)
+    × (runAnswered s m d ≡ 0 → runLeft s m d ≡ over (instants (tableOf (reading s .table)) m) d)
 
 -- each row of a well-formed table has figures, and the figures of the table are those of its rows
 abbrev pub Given : Type 0
 Given = (v : TableValue) → wellFormed v ≡ true
     → ((n : ℕ) → 1 ≤ n → n ≤ length (tableOf v) → (a : RowFigures) × Told v n a)
+    × (length (tableFigures v .rows) ≡ mostRows)
     × ((n : ℕ) → 1 ≤ n → n ≤ mostRows → getD (tableFigures v .rows) (n - 1) (slotOf (NoFigures NoSuchRow)) .answer ≡ rowAnswer v n)
 
 -- whole is the smallest positive t with f(t) = t, for all C and S of the row, where it is at most D
@@ -174,17 +218,25 @@ WaitingRow = (v : TableValue) (n : ℕ) (a : RowFigures) → Told v n a → wait
     × ((a .verdict ≡ Open) ↔ ((a .whole ≡ No) × (a .split ≡ No)))
     × (a .verdict ≡ Misses → ⊥)
 
+-- so often f was worked out for split: for each C by itself, in order, and no more once one has passed D
+pub data TookSplit (v : TableValue) (n : ℕ) : List Part → ℕ → Type 0 where
+  none-left : TookSplit v n [] 0
+  passed : {S C m : ℕ} {l : List Part} → Took (f v n C) (row v n .deadline) C m → NoneUpTo (row v n .deadline) (f v n C) → TookSplit v n (part S C ∷ l) m
+  next-one : {S C m k : ℕ} {l : List Part} (R : ℕ)
+      → Took (f v n C) (row v n .deadline) C m → Smallest (f v n C) R → R ≤ row v n .deadline → TookSplit v n l k → TookSplit v n (part S C ∷ l) (m + k)
+
 -- rounds: how often f was worked out, in all recurrences; for one C at most D - C + 1 times
 abbrev pub Rounds : Type 0
 Rounds = (v : TableValue) (n : ℕ) (a : RowFigures) → Told v n a
     → (waits (row v n) ≡ false
-    → (a .rounds ≡ rounds (f v n (own (row v n))) (row v n .deadline) (own (row v n))) × (a .rounds ≤ row v n .deadline - own (row v n) + 1))
+    → Took (f v n (own (row v n))) (row v n .deadline) (own (row v n)) (a .rounds) × (a .rounds ≤ row v n .deadline - own (row v n) + 1))
     × (waits (row v n) ≡ true
-    → a .rounds ≡ rounds (f v n (own (row v n))) (row v n .deadline) (own (row v n)) + splitRounds (rowAt (tableOf v)) (n - 1) (parts (row v n .times)))
+    → (w : ℕ) × (s : ℕ) × (a .rounds ≡ w + s)
+    × Took (f v n (own (row v n))) (row v n .deadline) (own (row v n)) w × TookSplit v n (parts (row v n .times)) s)
 
 -- the table fits if every row does, misses if some row misses, and is open otherwise
-abbrev pub TableVerdict : Type 0
-TableVerdict = (v : TableValue) → wellFormed v ≡ true
+abbrev pub TableJudged : Type 0
+TableJudged = (v : TableValue) → wellFormed v ≡ true
     → ((tableFigures v .verdict ≡ TableFits) ↔ ((n : ℕ) (a : RowFigures) → Told v n a → fits (a .verdict) ≡ true))
     × ((tableFigures v .verdict ≡ TableMisses) ↔ ((n : ℕ) × (a : RowFigures) × Told v n a × (a .verdict ≡ Misses)))
     × ((tableFigures v .verdict ≡ TableOpen)
@@ -203,13 +255,20 @@ InTime = (v : TableValue) (n : ℕ) (a : RowFigures) → Told v n a → (b : Bou
 abbrev pub FullRunLegal : Type 0
 FullRunLegal = (v : TableValue) → wellFormed v ≡ true → LegalRun (tableOf v) (full (rowAt (tableOf v)))
 
+-- the full run gives for a row the first instant at which its first job is complete, by the kernel's rules, and 'not' where there is none
+abbrev pub Ended : Type 0
+Ended = (v : TableValue) → wellFormed v ≡ true → (m n : ℕ) → m ≤ mostTicks → 1 ≤ n → n ≤ length (tableOf v)
+    → ((c : ℕ) → (completed v m n ≡ At (instant c)) ↔ FirstEnd (rowAt (tableOf v)) (n - 1) m c)
+    × ((completed v m n ≡ Not) ↔ ((c : ℕ) → FirstEnd (rowAt (tableOf v)) (n - 1) m c → ⊥))
+
 -- a row of one stretch that fits with R: the full run ends its first job at exactly R, which is within the ticks that a full run may have
 abbrev pub Exact : Type 0
 Exact = (v : TableValue) (n : ℕ) (a : RowFigures) → Told v n a → waits (row v n) ≡ false → (b : Bound) (R : Length) → a .verdict ≡ Fits b R
     → (R .0 ≤ mostTicks)
     × ((m : ℕ) → m ≤ mostTicks → (R .0 ≤ m → completed v m n ≡ At (instant (R .0))) × (m < R .0 → completed v m n ≡ Not))
 
--- a row of one stretch that misses: the full run does not end its first job by its deadline
+-- a row of one stretch that misses: by the kernel's rules its first job isn't complete at its deadline in the full run, and none is given up to it
 abbrev pub Missed : Type 0
 Missed = (v : TableValue) (n : ℕ) (a : RowFigures) → Told v n a → waits (row v n) ≡ false → a .verdict ≡ Misses
-    → (m : ℕ) → m ≤ mostTicks → (c : Instant) → completed v m n ≡ At c → row v n .deadline < c .0
+    → (Complete 0 (after (full (rowAt (tableOf v))) (row v n .deadline) (n - 1)) → ⊥)
+    × ((m : ℕ) → m ≤ mostTicks → (c : Instant) → completed v m n ≡ At c → row v n .deadline < c .0)

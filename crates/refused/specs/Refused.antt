@@ -13,6 +13,6 @@ use Rattle.refusals.specs.Refusals.{numberOf, lineOf, fieldOf}
 abbrev pub placeOf : Refusal → List (List ℕ)
 placeOf why = if leb 20 (numberOf why) then [] else digits (lineOf why) ∷ digits (fieldOf why) ∷ []
 
--- the line of a refusal: "refused", number, line, field
+-- the line of a refusal: "refused", number, and where there is a place line and field
 unfoldable pub refusedLine : Refusal → List ℕ
 refusedLine why = line (spelled "refused") (digits (numberOf why) ∷ placeOf why)

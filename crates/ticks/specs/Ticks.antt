@@ -23,7 +23,7 @@ most = 18446744073709551615
 abbrev pub laterBy : Instant → Length → Instant
 laterBy i l = record { 0 = min (i .0 + l .0) most }
 
--- the length from an earlier instant to a later one
+-- the length from an earlier instant to a later one; 0 where they are the other way round
 abbrev pub between : Instant → Instant → Length
 between a b = record { 0 = b .0 - a .0 }
 
