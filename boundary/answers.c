@@ -118,8 +118,6 @@ static void answer_report(size_t len)
 /* ---- full runs */
 
 #define ELEMENTS (MUSSELPATH_ROWS + 4)
-#define TOO_LONG 23
-#define TOO_SHORT 22
 
 static uint64_t instants[1 + ELEMENTS + 1];
 
@@ -173,9 +171,9 @@ static void put_run(const uint8_t *text, size_t len)
 static void put_refused(const uint8_t *text, size_t len, uint64_t answer)
 {
     char line[64];
-    if (MUSSELPATH_NUMBER(answer) == TOO_LONG) {
-        expect(answer == TOO_LONG, "23 has a place");
-        printf("refused\t%d\n", TOO_LONG);
+    if (MUSSELPATH_NUMBER(answer) == MUSSELPATH_MANY_TICKS) {
+        expect(answer == MUSSELPATH_MANY_TICKS, "23 has a place");
+        printf("refused\t%d\n", MUSSELPATH_MANY_TICKS);
         return;
     }
     size_t line_len = (size_t)sprintf(line, "refused\t%u\t%u\t%u\n", MUSSELPATH_NUMBER(answer), MUSSELPATH_LINE(answer), MUSSELPATH_FIELD(answer));
@@ -190,7 +188,7 @@ static void put_refused(const uint8_t *text, size_t len, uint64_t answer)
  */
 static void try_short_and_long(const uint8_t *text, size_t len, uint64_t ticks, uint64_t answer, size_t rows)
 {
-    uint64_t expected = answer == 0 ? TOO_SHORT : answer;
+    uint64_t expected = answer == 0 ? MUSSELPATH_NO_ROOM : answer;
     if (answer == 0) {
         expect(ask_run(text, len, ticks, rows) == 0, "a run buffer with an element for each row was refused");
         expect(rows_alone_changed(rows), "an element beyond the last row was changed");
@@ -199,7 +197,7 @@ static void try_short_and_long(const uint8_t *text, size_t len, uint64_t ticks, 
     }
     expect(ask_run(text, len, ticks, 0) == expected, "a run buffer of 0 is not refused by 22, or not after all others");
     expect(rows_alone_changed(0), "a run buffer of 0 was changed");
-    expected = answer == 0 ? TOO_LONG : answer;
+    expected = answer == 0 ? MUSSELPATH_MANY_TICKS : answer;
     expect(ask_run(text, len, UINT64_MAX, 0) == expected, "too many ticks are not refused by 23, or not after the text");
     expect(rows_alone_changed(0), "a run of too many ticks changed its buffer");
 }

@@ -8,12 +8,12 @@
  * - Any bytes may be handed in as a text. A bad one is refused by a fixed number and its place; nothing has to be tested
  *   beforehand.
  * - A pointer has to point to as many elements as the length beside it says, and must not be null, also where that length is 0.
- *   The lent buffer `out` must not overlap the text. This is all that a caller has to see to.
+ *   The lent buffer `out` must not overlap the text. But for the stack, below, this is all that a caller has to see to.
  * - The text is only read. Of `out` the answer alone is written: what lies beyond it is unchanged, and where nothing is answered
  *   all of it is unchanged. No other memory is touched.
  * - Every call returns. It takes no heap, calls nothing of an operating system, keeps nothing from one call to the next, and may
- *   be made from several threads at once. Of a C library it needs memcpy alone. All that it works with lies on the stack;
- *   boundary/stack.c measures how much that is, and docs/SPEED.md has the figures.
+ *   be made from several threads at once. Of a C library it needs memcpy alone. All that it works with lies on the stack: the
+ *   caller has to see to 21 KB for a report and 15 KB for a full run (boundary/stack.c measures it).
  * - The same input always gives the same answer.
  *
  * How long a call takes depends on the table. A report takes one round or more for each row, and within the limits of a table
@@ -37,6 +37,10 @@ extern "C" {
 /* A buffer of so many bytes has room for every report and every refused line. */
 #define MUSSELPATH_REPORT 845
 
+/* The two refusals of these functions that are not a text's: a buffer that is too short, and too many ticks. */
+#define MUSSELPATH_NO_ROOM 22
+#define MUSSELPATH_MANY_TICKS 23
+
 /* Stands for the completion instant of a row whose first job is not complete. */
 #define MUSSELPATH_NOT_COMPLETE UINT64_MAX
 
@@ -56,7 +60,7 @@ uint64_t musselpath_report(const uint8_t *text, uint64_t text_len, uint8_t *out,
 /* What musselpath_full_run answers: the number of the refusal, its line and its field, each from 1, or 0 where it has none. */
 #define MUSSELPATH_NUMBER(answer) ((unsigned)((uint64_t)(answer) & 0xffff))
 #define MUSSELPATH_LINE(answer) ((unsigned)(((uint64_t)(answer) >> 16) & 0xffff))
-#define MUSSELPATH_FIELD(answer) ((unsigned)((uint64_t)(answer) >> 32))
+#define MUSSELPATH_FIELD(answer) ((unsigned)((answer) >> 32))
 
 /*
  * Carries out the full run of a table text: all rows released at 0 and every T, full times, for so many ticks.

@@ -1,4 +1,4 @@
--- THE THREE DEMANDS, about the meanings of the public functions, for every input. proofs/Demands shows each of them.
+-- THE THREE DEMANDS, about the meanings of the public functions, for every input. proofs/Demand1 to Demand3 show each of them.
 -- text::read is `reading`, text::write is `written` and `writtenInto`, figures::row_figures is `rowAnswer`, figures::table_figures is
 -- `tableFigures`, report::write is `reported` and `reportedInto`, report::answer is `answeredIn` and `answeredInto`, machine::full_run is
 -- `fullRun`, runs::answer is `ranIn` and `ranInto`, the C functions are `fitted` and `placed` of `answerText`, `runAnswered` and `runLeft`: the contracts say so.
