@@ -16,10 +16,10 @@ use Rattle.table.proofs.Rules.{row-count, row-times, row-sum, count-most, numbe
 use Rattle.verdicts.specs.declared.Bound.{Bound}
 use Rattle.verdicts.specs.declared.Bound.the-variants.{Whole, Split}
 use Rattle.verdicts.specs.declared.Verdict.the-variants.{Fits}
-use Rattle.figures.specs.Figures.{right, result, rounds, own, whole, split, verdict, unlessNone, splitRounds, withSplit, rowRounds}
+use Rattle.recurrence.specs.Figures.{right, result, rounds, own, whole, split, verdict, unlessNone, splitRounds, withSplit, rowRounds}
 use Rattle.figures.specs.Answers.{splitShown}
-use Rattle.figures.proofs.Rows.{sane}
-use Rattle.figures.proofs.Verdicts.{fits-bound, split-some, whole-fixed, stretch-rounds}
+use Rattle.recurrence.proofs.Rows.{sane}
+use Rattle.recurrence.proofs.Verdicts.{fits-bound, split-some, whole-fixed, stretch-rounds}
 
 -- each stretch takes 1 tick or more, and at most d
 abbrev Within : ℕ → List Part → Type 0

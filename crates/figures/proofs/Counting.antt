@@ -11,9 +11,9 @@ use lib.ListN.{length, getD, set, replicate, getD-replicate}
 use lib.Seq.{getD-set-same, getD-set-other}
 use Rattle.table.specs.Limits.{mostRows}
 use Rattle.table.specs.Paper.{Row, parts, work}
-use Rattle.figures.specs.Figures.{ceiling, arrivals, demand}
+use Rattle.recurrence.specs.Figures.{ceiling, arrivals, demand}
 use Rattle.figures.specs.Work.{safeNumber, moreOf, rowsFrom, Modest, Counted, CountedAt}
-use Rattle.figures.proofs.Arrivals.{ceiling-zero, ceiling-step, arrivals-zero, arrivals-most, arrivals-mono, arrivals-reach, arrivals-on}
+use Rattle.recurrence.proofs.Arrivals.{ceiling-zero, ceiling-step, arrivals-zero, arrivals-most, arrivals-mono, arrivals-reach, arrivals-on}
 
 -- the rows below i are counted at t, the others still at an earlier instant
 pub record Halfway (rows : ℕ → Row) (k t i total : ℕ) (until : List ℕ) : Type 0 where

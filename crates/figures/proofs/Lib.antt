@@ -1,7 +1,3 @@
-pub mod Arrivals
-pub mod Recurrence
-pub mod Rows
-pub mod Verdicts
 pub mod Values
 pub mod Counting
 pub mod Steps

@@ -13,10 +13,10 @@ use Rattle.ticks.specs.Ticks.{ticks}
 use Rattle.verdicts.specs.Verdicts.{figureOf, numberIn}
 use Rattle.table.specs.declared.Row.{Row as RowValue}
 use Rattle.figures.proofs.Values.{time-used}
-use Rattle.figures.specs.Figures.{arrivals, demand, right, result, rounds, plus, splitFrom, unlessNone, splitRounds}
+use Rattle.recurrence.specs.Figures.{arrivals, demand, right, result, rounds, plus, splitFrom, unlessNone, splitRounds}
 use Rattle.figures.specs.Work.{rowsFrom, rowsOf, Modest, Taken}
-use Rattle.figures.proofs.Arrivals.{arrivals-same}
-use Rattle.figures.proofs.Recurrence.{demand-mono, result-some, rounds-few}
+use Rattle.recurrence.proofs.Arrivals.{arrivals-same}
+use Rattle.recurrence.proofs.Recurrence.{demand-mono, result-some, rounds-few}
 
 -- rows with the same T and the same C ask for the same
 demand-same : (rows others : ℕ → Row) (k : ℕ) → ((i : ℕ) → i < k → rows i .period ≡ others i .period)

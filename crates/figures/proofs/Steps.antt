@@ -9,7 +9,7 @@ use lib.ListN.{length}
 use borrow.Author.Tests.{eq-eqb, ne-eqb, lt-ltb, le-ltb}
 use Rattle.words.specs.Choice.{_or_}
 use Rattle.words.proofs.Choice.{or-true, or-false, if-true, if-false}
-use Rattle.figures.specs.Figures.{stops, sequenceFrom, sequence, last, settled, result, rounds}
+use Rattle.recurrence.specs.Figures.{stops, sequenceFrom, sequence, last, settled, result, rounds}
 
 module _ (f : ℕ → ℕ) (d c : ℕ) where
   -- the part of the sequence that starts at t, after n rounds

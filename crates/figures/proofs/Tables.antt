@@ -12,7 +12,7 @@ use Rattle.table.specs.Value.{noValue, rowValue, tableOf, wellFormed}
 use Rattle.table.specs.declared.Table.{Table as TableValue}
 use Rattle.table.proofs.Used.{row-is, value-is, row-right}
 use Rattle.verdicts.specs.declared.TableVerdict.{TableVerdict}
-use Rattle.figures.specs.Figures.{verdict}
+use Rattle.recurrence.specs.Figures.{verdict}
 use Rattle.figures.specs.Answers.{verdicts, tableVerdict}
 use Rattle.verdicts.specs.Verdicts.{overall, joinedOf}
 use Rattle.verdicts.proofs.Overall.{overall-next}

@@ -14,9 +14,9 @@ use Rattle.table.specs.Value.{rowOf}
 use Rattle.ticks.specs.Ticks.{ticks}
 use Rattle.table.specs.declared.Row.{Row as RowValue}
 use Rattle.table.proofs.Rules.{ticks-long, row-sum, row-period, row-deadline, number-range}
-use Rattle.figures.specs.Figures.{own}
+use Rattle.recurrence.specs.Figures.{own}
 use Rattle.figures.specs.Work.{Kept, safeNumber}
-use Rattle.figures.proofs.Rows.{sane, parts-sum, work-total}
+use Rattle.recurrence.proofs.Rows.{sane, parts-sum, work-total}
 
 -- the times of a value, with the zeros behind them
 pub kept-times : (v : RowValue) → Kept v → map ticks (v .times) ≡ padded mostTimes (rowOf v .times)

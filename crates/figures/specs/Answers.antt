@@ -22,7 +22,7 @@ use Rattle.figures.specs.declared.Answer.{Answer}
 use Rattle.figures.specs.declared.Answer.the-variants.{Row as RowIs, Refused}
 use Rattle.figures.specs.declared.Slot.{Slot}
 use Rattle.figures.specs.declared.TableFigures.{TableFigures}
-use Rattle.figures.specs.Figures.{whole, split, verdict, rowRounds}
+use Rattle.recurrence.specs.Figures.{whole, split, verdict, rowRounds}
 
 -- a row with one C has no split
 abbrev pub splitShown : List Part → Option ℕ → Option ℕ

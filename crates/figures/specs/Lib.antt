@@ -1,4 +1,2 @@
-pub mod Fixed
-pub mod Figures
 pub mod Answers
 pub mod Work

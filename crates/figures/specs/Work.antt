@@ -10,7 +10,7 @@ use Rattle.table.specs.Value.{noValue, rowOf, rowValue}
 use Rattle.table.specs.declared.Row.{Row as RowValue}
 use Rattle.figures.specs.declared.Ahead.{Ahead}
 use Rattle.figures.specs.declared.Worked.{Worked}
-use Rattle.figures.specs.Figures.{ceiling, arrivals, demand, result, rounds, splitFrom, splitRounds}
+use Rattle.recurrence.specs.Figures.{ceiling, arrivals, demand, result, rounds, splitFrom, splitRounds}
 use Rattle.verdicts.specs.Verdicts.{figureOf}
 
 -- numbers up to this one keep every sum and product of the figures within 64 bits; a table's limit is at most this

@@ -7,7 +7,7 @@ ghost use Rattle.table.specs.Limits.{mostRows, mostTimes};
 ghost use Rattle.table.specs.Paper.{parts, work};
 ghost use Rattle.table.specs.Value.{rowOf, noValue};
 ghost use Rattle.ticks.specs.Ticks.{ticks};
-ghost use Rattle.figures.specs.Figures.{right, own};
+ghost use Rattle.recurrence.specs.Figures.{right, own};
 ghost use Rattle.figures.specs.Answers.{figuresOf, rowAnswer, tableFigures};
 ghost use Rattle.figures.specs.Work.{safeNumber, workedOf, aheadOf, splitWorked, rowsFrom, rowsOf, Modest, Counted, CountedAt, Taken, Kept};
 use refusals::Refusal;

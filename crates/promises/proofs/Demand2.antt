@@ -53,12 +53,12 @@ use Rattle.figures.specs.declared.RowFigures.{RowFigures}
 use Rattle.figures.specs.declared.Slot.{Slot}
 use Rattle.figures.specs.declared.TableFigures.{TableFigures}
 use Rattle.figures.specs.declared.Answer.the-variants.{Row as RowIs, Refused as NoFigures}
-use Rattle.figures.specs.Fixed.{Smallest, Took}
-use Rattle.figures.specs.Figures.{right, result, rounds, own, whole, plus, split, splitFrom, splitRounds, verdict, withSplit, rowRounds, unlessNone}
+use Rattle.recurrence.specs.Fixed.{Smallest, Took}
+use Rattle.recurrence.specs.Figures.{right, result, rounds, own, whole, plus, split, splitFrom, splitRounds, verdict, withSplit, rowRounds, unlessNone}
 use Rattle.figures.specs.Answers.{splitShown, figuresOf, rowAnswer, verdicts, tableVerdict, slotOf, slots, tableFigures}
-use Rattle.figures.proofs.Rows.{sane, one-time, more-times}
-use Rattle.figures.proofs.Verdicts.{stretch-none, stretch-took, whole-took}
-use Rattle.figures.proofs.Verdicts.{split-some, stretch-fixed, whole-fixed, one-fits, one-misses, one-whole, one-open, one-rounds, waiting-whole, waiting-split, waiting-open, waiting-misses}
+use Rattle.recurrence.proofs.Rows.{sane, one-time, more-times}
+use Rattle.recurrence.proofs.Verdicts.{stretch-none, stretch-took, whole-took}
+use Rattle.recurrence.proofs.Verdicts.{split-some, stretch-fixed, whole-fixed, one-fits, one-misses, one-whole, one-open, one-rounds, waiting-whole, waiting-split, waiting-open, waiting-misses}
 use Rattle.report.specs.Report.{reportText, answerTo, answerText, reported, reportedInto, longestReport}
 use Rattle.report.proofs.Fits.{answer-fits}
 use Rattle.runs.specs.Runs.{runText, ranIn, ranInto, longestRun}

@@ -21,9 +21,9 @@ use Rattle.verdicts.specs.declared.Bound.{Bound}
 use Rattle.verdicts.specs.declared.Bound.the-variants.{Whole, Split}
 use Rattle.verdicts.specs.declared.Verdict.the-variants.{Fits}
 use Rattle.figures.specs.declared.RowFigures.{RowFigures}
-use Rattle.figures.specs.Figures.{whole, split, verdict}
-use Rattle.figures.proofs.Rows.{sane}
-use Rattle.figures.proofs.Verdicts.{ofBound, fits-bound, whole-fixed}
+use Rattle.recurrence.specs.Figures.{whole, split, verdict}
+use Rattle.recurrence.proofs.Rows.{sane}
+use Rattle.recurrence.proofs.Verdicts.{ofBound, fits-bound, whole-fixed}
 use Rattle.kernel.specs.Rules.{after, full, Complete}
 use Rattle.kernel.specs.Completion.{completion}
 use Rattle.kernel.proofs.Ended.{complete-same, completion-same}

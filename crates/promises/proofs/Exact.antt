@@ -17,11 +17,11 @@ use Rattle.table.specs.Paper.{Row, Table, rowAt, Part, part, parts, work, total
 use Rattle.kernel.specs.Rules.{Job, job, serve, arrive, after, Within, Legal, LegalRun, Complete, fullRelease, full}
 use Rattle.verdicts.specs.declared.Bound.{Bound}
 use Rattle.verdicts.specs.declared.Verdict.the-variants.{Fits, Misses}
-use Rattle.figures.specs.Figures.{arrivals, demand, right, own, verdict}
-use Rattle.figures.proofs.Arrivals.{arrivals-zero, arrivals-next}
-use Rattle.figures.proofs.Rows.{sane}
-use Rattle.figures.specs.Fixed.{Smallest, NoneUpTo}
-use Rattle.figures.proofs.Verdicts.{one-fits, one-whole, one-misses}
+use Rattle.recurrence.specs.Figures.{arrivals, demand, right, own, verdict}
+use Rattle.recurrence.proofs.Arrivals.{arrivals-zero, arrivals-next}
+use Rattle.recurrence.proofs.Rows.{sane}
+use Rattle.recurrence.specs.Fixed.{Smallest, NoneUpTo}
+use Rattle.recurrence.proofs.Verdicts.{one-fits, one-whole, one-misses}
 use Rattle.promises.proofs.Supply.{bit, sumFrom, sum-add, sum-none, sum-last, idle, Server, balance}
 use Rattle.promises.proofs.Finish.{Positive}
 use Rattle.promises.proofs.Queue.{Evolves}

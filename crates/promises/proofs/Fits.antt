@@ -12,9 +12,9 @@ use Rattle.kernel.specs.Rules.{after, Input, LegalRun, Complete}
 use Rattle.verdicts.specs.declared.Bound.{Bound}
 use Rattle.verdicts.specs.declared.Bound.the-variants.{Whole, Split}
 use Rattle.verdicts.specs.declared.Verdict.the-variants.{Fits}
-use Rattle.figures.specs.Figures.{demand, right, result, whole, plus, splitFrom, split, verdict}
-use Rattle.figures.proofs.Rows.{sane}
-use Rattle.figures.proofs.Verdicts.{ofBound, fits-bound, split-some, stretch-fixed, whole-fixed}
+use Rattle.recurrence.specs.Figures.{demand, right, result, whole, plus, splitFrom, split, verdict}
+use Rattle.recurrence.proofs.Rows.{sane}
+use Rattle.recurrence.proofs.Verdicts.{ofBound, fits-bound, split-some, stretch-fixed, whole-fixed}
 use Rattle.promises.proofs.Supply.{Bounded, supply}
 use Rattle.promises.proofs.Finish.{Positive, Splits, no-part, one-part}
 use Rattle.promises.proofs.Proper.{proper, positive, single}

@@ -10,7 +10,7 @@ use Rattle.words.specs.Lists.{all, any}
 use Rattle.words.proofs.Choice.{and-parts, or-parts}
 use Rattle.table.specs.Paper.{Row, Table, rowAt, part, behind, parts, total, rightNumber, rightRow, waits, rightRows, rightTable}
 use Rattle.table.proofs.Rules.{number-range}
-use Rattle.figures.proofs.Rows.{sane, one-time}
+use Rattle.recurrence.proofs.Rows.{sane, one-time}
 use Rattle.promises.proofs.Finish.{Positive}
 
 -- what the promises need of a table

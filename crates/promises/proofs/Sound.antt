@@ -6,7 +6,7 @@ use Prim.Native.Nat.{ℕ, zero, suc, _+_, _*_, _≤_, _<_}
 use native.Mathlib.Omega.{arith}
 use Rattle.table.specs.Paper.{Row, Part, parts, work}
 use Rattle.kernel.specs.Rules.{free, after, Input, Within, Legal, Complete}
-use Rattle.figures.specs.Figures.{arrivals, demand, own}
+use Rattle.recurrence.specs.Figures.{arrivals, demand, own}
 use Rattle.promises.proofs.Supply.{sumFrom, sum-add, sum-none, Server, Bounded, server-bounded, supply}
 use Rattle.promises.proofs.Finish.{served, Splits, whole-ends, split-ends, within-positive, within-total}
 use Rattle.promises.proofs.Window.{window}

@@ -4,8 +4,8 @@ use Prim.Native.Nat.{ℕ, zero, suc, _+_, _-_, _*_, _≤_, _<_}
 use native.Mathlib.Nat.{mul-le-mul-right}
 use native.Mathlib.Omega.{arith}
 use Rattle.table.specs.Paper.{Row}
-use Rattle.figures.specs.Figures.{arrivals}
-use Rattle.figures.proofs.Arrivals.{arrivals-mono, arrivals-step}
+use Rattle.recurrence.specs.Figures.{arrivals}
+use Rattle.recurrence.proofs.Arrivals.{arrivals-mono, arrivals-step}
 use Rattle.promises.proofs.Supply.{sumFrom}
 
 -- b is what a row releases in each tick: at most C, and nothing for T ticks behind a release

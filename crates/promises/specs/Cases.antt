@@ -21,7 +21,7 @@ use Rattle.verdicts.specs.declared.Verdict.the-variants.{Fits, Misses, Open}
 use Rattle.verdicts.specs.Verdicts.{figureOf}
 use Rattle.figures.specs.declared.Answer.{Answer}
 use Rattle.figures.specs.declared.Answer.the-variants.{Row as RowIs}
-use Rattle.figures.specs.Figures.{ceiling, arrivals, sequence, right, result, own, splitFrom}
+use Rattle.recurrence.specs.Figures.{ceiling, arrivals, sequence, right, result, own, splitFrom}
 use Rattle.figures.specs.Answers.{rowAnswer, verdicts, tableVerdict}
 use Rattle.report.specs.Report.{rowLine, lastLine, reportText, answerText}
 use Rattle.kernel.specs.Witness.{row, openTable, fullTable, tickTable, shortTable}

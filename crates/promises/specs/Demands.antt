@@ -38,8 +38,8 @@ use Rattle.verdicts.specs.declared.Verdict.the-variants.{Fits, Misses, Open}
 use Rattle.verdicts.specs.declared.TableVerdict.the-variants.{Fits as TableFits, Misses as TableMisses, Open as TableOpen}
 use Rattle.figures.specs.declared.RowFigures.{RowFigures}
 use Rattle.figures.specs.declared.Answer.the-variants.{Row as RowIs, Refused as NoFigures}
-use Rattle.figures.specs.Fixed.{Smallest, NoneUpTo, Took}
-use Rattle.figures.specs.Figures.{right, own}
+use Rattle.recurrence.specs.Fixed.{Smallest, NoneUpTo, Took}
+use Rattle.recurrence.specs.Figures.{right, own}
 use Rattle.figures.specs.Answers.{rowAnswer, slotOf, refusedFigures, tableFigures, numberOfAnswer, numberOfVerdict}
 use Rattle.report.specs.Report.{reportText, answerText, reported, reportedInto, longestReport}
 use Rattle.kernel.specs.Rules.{Input, LegalRun, after, full, Complete}

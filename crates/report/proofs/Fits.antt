@@ -27,7 +27,7 @@ use Rattle.verdicts.specs.declared.Verdict.{Verdict}
 use Rattle.verdicts.specs.declared.Verdict.the-variants.{Fits, Misses, Open}
 use Rattle.verdicts.specs.declared.TableVerdict.{TableVerdict}
 use Rattle.verdicts.specs.declared.TableVerdict.the-variants.{Fits as TableFits, Misses as TableMisses, Open as TableOpen, Refused as TableRefused}
-use Rattle.figures.specs.Figures.{whole, split, verdict, rowRounds}
+use Rattle.recurrence.specs.Figures.{whole, split, verdict, rowRounds}
 use Rattle.figures.specs.Answers.{splitShown, figuresOf, tableVerdict}
 use Rattle.verdicts.specs.Verdicts.{figureOf}
 use Rattle.figures.proofs.Bounds.{whole-most, shown-most, fits-most, rounds-most}

@@ -13,7 +13,7 @@ use Rattle.table.specs.declared.Row.{Row as RowValue}
 use Rattle.table.specs.Paper.{parts, work}
 use Rattle.figures.specs.Work.{Taken, Kept, rowsOf}
 use Rattle.figures.proofs.Values.{deadline-safe, work-fits, period-safe}
-use Rattle.figures.proofs.Rows.{sane}
+use Rattle.recurrence.proofs.Rows.{sane}
 use Rattle.figures.proofs.above_of.Statement.{statement}
 use Rattle.figures.proofs.above_of.Tie as tie
 

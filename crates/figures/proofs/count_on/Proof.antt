@@ -6,7 +6,7 @@ use native.Mathlib.Nat.{mul-le-mul}
 use native.Mathlib.Omega.{arith}
 use borrow.Author.Needs.{needs}
 use Rattle.figures.specs.declared.Ahead.{Ahead}
-use Rattle.figures.specs.Figures.{ceiling}
+use Rattle.recurrence.specs.Figures.{ceiling}
 use Rattle.figures.specs.Work.{safeNumber, moreOf, aheadOf}
 use Rattle.figures.proofs.Counting.{more-none, more-few, chosen}
 use Rattle.figures.proofs.count_on.Statement.{statement}

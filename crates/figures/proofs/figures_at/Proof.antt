@@ -10,13 +10,13 @@ use lib.ListN.{getD}
 use Rattle.table.specs.Paper.{Row, parts, rightRow, waits}
 use Rattle.table.specs.Value.{noValue}
 use Rattle.table.specs.declared.Row.{Row as RowValue}
-use Rattle.figures.specs.Figures.{right, rounds, own, whole, split, splitFrom, judge, withSplit, splitRounds}
+use Rattle.recurrence.specs.Figures.{right, rounds, own, whole, split, splitFrom, judge, withSplit, splitRounds}
 use Rattle.verdicts.specs.Verdicts.{atMost, single, lesser, figureOf, numberIn}
 use Rattle.figures.specs.Answers.{splitShown, figuresOf}
 use Rattle.figures.specs.Work.{workedOf, rowsFrom, rowsOf, Taken}
 use Rattle.figures.specs.declared.RowFigures.{RowFigures}
 use Rattle.figures.specs.declared.Worked.{Worked}
-use Rattle.figures.proofs.Rows.{sane, one-time, more-times}
+use Rattle.recurrence.proofs.Rows.{sane, one-time, more-times}
 use Rattle.figures.proofs.Values.{deadline-safe}
 use Rattle.figures.proofs.Split.{right-same, worked-few, figure-back}
 use borrow.Author.Needs.{needs}

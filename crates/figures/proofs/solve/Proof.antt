@@ -7,10 +7,10 @@ use native.Mathlib.Nat.{mul-le-mul-right}
 use borrow.Author.Needs.{needs}
 use lib.ListN.{length}
 use Rattle.table.specs.Limits.{mostRows}
-use Rattle.figures.specs.Figures.{demand, right, result, rounds}
+use Rattle.recurrence.specs.Figures.{demand, right, result, rounds}
 use Rattle.verdicts.specs.Verdicts.{figureOf}
 use Rattle.figures.specs.Work.{safeNumber, rowsFrom, Modest, Counted}
-use Rattle.figures.proofs.Recurrence.{demand-mono}
+use Rattle.recurrence.proofs.Recurrence.{demand-mono}
 use Rattle.figures.proofs.Counting.{demand-safe, counted-start}
 use Rattle.figures.proofs.Steps.{Going, going-start, going-fixed, going-above, going-on}
 use Rattle.figures.proofs.solve.Statement.{statement}

@@ -16,7 +16,7 @@ use Rattle.verdicts.specs.Verdicts.{figureOf, numberIn}
 use Rattle.table.specs.declared.Row.{Row as RowValue}
 use Rattle.table.proofs.Rows.{time-at}
 use Rattle.table.proofs.Rules.{row-times, row-sum, row-count, number-range, count-most}
-use Rattle.figures.specs.Figures.{right, result, rounds}
+use Rattle.recurrence.specs.Figures.{right, result, rounds}
 use Rattle.figures.specs.Work.{safeNumber, workedOf, splitWorked, rowsFrom, rowsOf, Taken, Kept}
 use Rattle.figures.specs.declared.Above.{Above}
 use Rattle.figures.specs.declared.Worked.{Worked}

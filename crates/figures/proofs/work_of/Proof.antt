@@ -12,7 +12,7 @@ use Rattle.table.specs.Paper.{parts, work}
 use Rattle.ticks.specs.Ticks.{ticks, long}
 use Rattle.table.proofs.Rows.{time-at, times-within}
 use Rattle.figures.specs.Work.{safeNumber}
-use Rattle.figures.proofs.Rows.{work-at, work-end}
+use Rattle.recurrence.proofs.Rows.{work-at, work-end}
 use Rattle.figures.proofs.Values.{work-fits, deadline-safe, time-used}
 use Rattle.figures.proofs.work_of.Statement.{statement}
 use Rattle.figures.proofs.work_of.Tie as tie

@@ -10,7 +10,7 @@ use Rattle.words.specs.Lists.{sum, all}
 use Rattle.words.proofs.Choice.{and-parts}
 use Rattle.table.specs.Paper.{Row, Part, part, behind, parts, work, total, rightNumber, rightCount, rightRow, waits}
 use Rattle.table.proofs.Rules.{number-range, row-period, row-count, row-times, row-order, row-sum}
-use Rattle.figures.specs.Figures.{own}
+use Rattle.recurrence.specs.Figures.{own}
 
 behind-sum : (l : List ℕ) → length l % 2 ≡ 0 → total (behind l) ≡ sum l
 unfolding sum

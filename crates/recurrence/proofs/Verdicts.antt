@@ -17,10 +17,10 @@ use Rattle.verdicts.specs.Verdicts.{atMost, single, lesser}
 use Rattle.verdicts.specs.declared.Bound.{Bound}
 use Rattle.verdicts.specs.declared.Bound.the-variants.{Whole, Split}
 use Rattle.verdicts.specs.declared.Verdict.the-variants.{Fits, Misses, Open}
-use Rattle.figures.specs.Fixed.{Smallest, NoneUpTo, Took}
-use Rattle.figures.specs.Figures.{right, result, rounds, own, whole, split, splitFrom, judge, verdict, withSplit, rowRounds, splitRounds}
-use Rattle.figures.proofs.Recurrence.{result-some, result-none, rounds-took, rounds-few, demand-mono}
-use Rattle.figures.proofs.Rows.{Sane, sane, one-time, more-times}
+use Rattle.recurrence.specs.Fixed.{Smallest, NoneUpTo, Took}
+use Rattle.recurrence.specs.Figures.{right, result, rounds, own, whole, split, splitFrom, judge, verdict, withSplit, rowRounds, splitRounds}
+use Rattle.recurrence.proofs.Recurrence.{result-some, result-none, rounds-took, rounds-few, demand-mono}
+use Rattle.recurrence.proofs.Rows.{Sane, sane, one-time, more-times}
 
 -- the bound of that name, of whole and split
 abbrev pub ofBound : Bound → Option ℕ → Option ℕ → Option ℕ

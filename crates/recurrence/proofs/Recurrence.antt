@@ -13,9 +13,9 @@ use lib.ListN.{length}
 use borrow.Author.Tests.{eqb-true, eqb-false, ltb-true, ltb-false, eq-eqb, ne-eqb}
 use Rattle.words.proofs.Choice.{or-parts, or-false, if-true, if-false}
 use Rattle.table.specs.Paper.{Row, parts, work}
-use Rattle.figures.specs.Fixed.{Smallest, NoneUpTo, Took, settles, passes, goes-on}
-use Rattle.figures.specs.Figures.{demand, stops, sequenceFrom, sequence, last, settled, result, rounds}
-use Rattle.figures.proofs.Arrivals.{arrivals-mono}
+use Rattle.recurrence.specs.Fixed.{Smallest, NoneUpTo, Took, settles, passes, goes-on}
+use Rattle.recurrence.specs.Figures.{demand, stops, sequenceFrom, sequence, last, settled, result, rounds}
+use Rattle.recurrence.proofs.Arrivals.{arrivals-mono}
 
 module _ (f : ℕ → ℕ) (d : ℕ) where
   why-stopped : (t : ℕ) → stops f d t ≡ true → (f t ≡ t) ⊎ (d < f t)

@@ -9,7 +9,7 @@ use lib.Dec.{eqb}
 use borrow.Author.Tests.{eqb-true, eqb-false}
 use Rattle.words.specs.Choice.{if_then_else_}
 use Rattle.table.specs.Paper.{Row}
-use Rattle.figures.specs.Figures.{ceiling, arrivals}
+use Rattle.recurrence.specs.Figures.{ceiling, arrivals}
 
 module _ (n : ℕ) (some : 1 ≤ n) where
   pub ceiling-zero : ceiling 0 n ≡ 0

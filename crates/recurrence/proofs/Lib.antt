@@ -1,0 +1,4 @@
+pub mod Arrivals
+pub mod Recurrence
+pub mod Rows
+pub mod Verdicts
