@@ -69,7 +69,7 @@ module _ (f : ℕ → ℕ) (d : ℕ) where
     took (suc n) t true e g le = ⊎-elim settles passes (why-stopped t e)
     took (suc n) t false e g le =
         let h = why-on t e in
-        rw (← add-one) (goes-on (h .0) (h .1) (took n (f t) (stops f d (f t)) refl (mono t (f t) g) (omega (arith, h .0))))
+        rw (← add-one) (goes-on (h .0) (omega (arith, h .1)) (took n (f t) (stops f d (f t)) refl (mono t (f t) g) (omega (arith, h .0))))
 
     module _ (c : ℕ) (positive : 1 ≤ c) (fits : c ≤ d) (above : (t : ℕ) → c ≤ f t) where
       ended : End c (sequence f d c)
@@ -87,7 +87,7 @@ module _ (f : ℕ → ℕ) (d : ℕ) where
           go : (z : ℕ) → last c (sequence f d c) ≡ z → OnWay z → c ≤ z → (f z ≡ z) ⊎ (d < f z) → Answer
           go z e g le (inl fix) =
               found z (ap (settled f) e ∙ if-true (some z) none (eq-eqb (f z) z fix))
-              (record { positive = omega arith; fixed = fix; least = λ y p e. g .under y (omega arith) }) (g .low) (g .under)
+              (record { positive = omega arith; fixed = fix; least = λ y p e. omega (arith, g .under y (omega arith)) }) (g .low) (g .under)
           go z e g le (inr big) =
               missing (ap (settled f) e ∙ if-false (some z) none (ne-eqb (f z) z (λ fix. omega (arith, g .low))))
               (λ y h. omega (arith, mono z y (g .under y h)))
@@ -112,7 +112,7 @@ module _ (f : ℕ → ℕ) (d : ℕ) where
         where
           to : Answer → result f d c ≡ none → NoneUpTo d f
           to (found S e l le under) h = let z : _≡_ {A = ℕ} 0 1 = cc in absurd (omega arith)
-          to (missing e n) h = λ y p fix. n y (omega arith)
+          to (missing e n) h = λ y p fix. omega (arith, n y (omega arith))
 
           from : Answer → NoneUpTo d f → result f d c ≡ none
           from (found S e l le under) h = absurd (omega (arith, h S (l .positive) (l .fixed)))
