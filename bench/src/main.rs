@@ -41,6 +41,7 @@ fn job(name: &str, size: u64) -> Option<Work> {
     let work = match name {
         "light" => Work::Reports(light(size)),
         "pow2far" => Work::Reports(vec![pow2far(size)]),
+        "mixed" => Work::Reports(vec![mixed(size)]),
         "all15" => Work::Reports(vec![all15(size)]),
         "extreme" => Work::Reports(vec![extreme(size)]),
         "heaviest" => Work::Reports(vec![heaviest(size)]),
@@ -79,6 +80,15 @@ fn light(count: u64) -> Vec<Vec<u8>> {
 fn pow2far(size: u64) -> Vec<u8> {
     let mut rows: Vec<_> = (1..=14).map(|power| row(1 << power, "1")).collect();
     rows.extend([row(size, "1"), row(size, "15")]);
+    lines(&rows)
+}
+
+/// 15 rows above with mixed periods and a load of 0.99999, of which now these
+/// and now those release in a round; the last row takes 30,515 rounds and fits.
+fn mixed(size: u64) -> Vec<u8> {
+    let periods = [4, 9, 10, 11, 13, 16, 17, 18, 27, 28, 32, 38, 46, 47, 48];
+    let mut rows: Vec<_> = periods.iter().map(|&t| row(t, "1")).collect();
+    rows.push(row(size, "1"));
     lines(&rows)
 }
 
@@ -256,6 +266,7 @@ fn measure(repeats: usize) -> Option<()> {
     let jobs = [
         ("light", LIGHT_TABLES),
         ("pow2far", MOST),
+        ("mixed", MOST),
         ("all15", MOST),
         ("extreme", MOST),
         ("heaviest", MOST),
@@ -274,6 +285,7 @@ fn title(name: &str, work: &Work) -> String {
     match name {
         "light" => format!("light: {LIGHT_TABLES} drawn tables, {rounds} rounds in all"),
         "pow2far" => format!("pow2far: 15 rows above, {rounds} rounds"),
+        "mixed" => format!("mixed: 15 rows above of mixed periods, {rounds} rounds"),
         "all15" => format!("all15: 15 rows above at once, {rounds} rounds"),
         "extreme" => format!("extreme: 1 row above, {rounds} rounds"),
         "heaviest" => format!("heaviest: 16 rows, {rounds} rounds"),
