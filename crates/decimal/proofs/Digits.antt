@@ -40,7 +40,8 @@ enough = by-last-digit (λ n. (f g : ℕ) → n < f → n < g → lastDigits f n
     small n h (suc f) zero a b = absurd (omega arith)
     small n h (suc f) (suc g) a b = last-small f n h ∙ sym (last-small g n h)
 
-    big : (n : ℕ) → 10 ≤ n → ((f g : ℕ) → n / 10 < f → n / 10 < g → lastDigits f (n / 10) ≡ lastDigits g (n / 10)) → (f g : ℕ) → n < f → n < g → lastDigits f n ≡ lastDigits g n
+    big : (n : ℕ) → 10 ≤ n → ((f g : ℕ) → n / 10 < f → n / 10 < g → lastDigits f (n / 10) ≡ lastDigits g (n / 10)) → (f g : ℕ) → n < f → n < g
+        → lastDigits f n ≡ lastDigits g n
     big n h ih zero g a b = absurd (omega arith)
     big n h ih (suc f) zero a b = absurd (omega arith)
     big n h ih (suc f) (suc g) a b = last-big f n h ∙ ap (λ (l : List ℕ). l ++ ((48 + n % 10) ∷ [])) (ih f g (omega arith) (omega arith)) ∙ sym (last-big g n h)

@@ -93,8 +93,15 @@ first-three s (lined k l g h) = go (readText s) refl h
         let n : textNumber s ≡ 0 = ap number e in
         (((λ z. omega arith), (λ z. omega arith)), ((λ z. omega arith), (λ z. omega arith)), ((λ z. absurd (omega arith)), (λ z. absurd (z .2 g))))
     go (refused why) e p =
-        let n : textNumber s ≡ numberOf why = ap number e in
-        (((λ z. omega (arith, p .low)), (λ z. omega arith)), ((λ z. omega (arith, p .low)), (λ z. omega arith)), ((λ z. absurd (omega (arith, p .low))), (λ z. absurd (z .2 g))))
+        let n : textNumber s ≡ numberOf why = ap number e in (
+          ((λ z. omega (arith, p .low)), (λ z. omega arith)),
+          ((λ z. omega (arith, p .low)), (λ z. omega arith)),
+          (
+            (λ z. absurd
+                (omega (arith, p .low))),
+            (λ z. absurd (z .2 g)),
+          ),
+        )
 
 pub demand-1-texts : Texts
 demand-1-texts s =
@@ -116,7 +123,8 @@ overall-number vs = go (all fits vs) (any misses vs)
     go false true = refl
     go false false = refl
 
-table-due : (b : Bool) (a : TableFigures) → numberOfVerdict (a .verdict) ≡ 0 → numberOfVerdict ((if b then a else refusedFigures BadTable) .verdict) ≡ due b true true true
+table-due : (b : Bool) (a : TableFigures) → numberOfVerdict (a .verdict) ≡ 0
+    → numberOfVerdict ((if b then a else refusedFigures BadTable) .verdict) ≡ due b true true true
 table-due true a e = e
 table-due false a e = refl
 
@@ -256,8 +264,12 @@ demand-1-packed s m d =
     let r = packed-of s m d (readText s) refl in (
       (λ z.
           let x = refused-text s z in
-          let c = place-comes-out s (x .0) m d (x .1) in
-          (c .0 ∙ sym (ap number (x .1)), c .1 ∙ sym (ap (λ a. lineOfOutcome (readingOf a .outcome)) (x .1)), c .2 ∙ sym (ap (λ a. fieldOfOutcome (readingOf a .outcome)) (x .1)))),
+          let c = place-comes-out s (x .0) m d (x .1) in (
+            c .0 ∙ sym (ap number (x .1)),
+            c .1 ∙ sym (ap (λ a. lineOfOutcome (readingOf a .outcome)) (x .1)),
+            c .2
+                ∙ sym (ap (λ a. fieldOfOutcome (readingOf a .outcome)) (x .1)),
+          )),
       r .0,
       r .1,
     )

@@ -58,7 +58,8 @@ use Rattle.recurrence.specs.Figures.{right, result, rounds, own, whole, plus, s
 use Rattle.figures.specs.Answers.{splitShown, figuresOf, rowAnswer, verdicts, tableVerdict, slotOf, slots, tableFigures}
 use Rattle.recurrence.proofs.Rows.{sane, one-time, more-times}
 use Rattle.recurrence.proofs.Verdicts.{stretch-none, stretch-took, whole-took}
-use Rattle.recurrence.proofs.Verdicts.{split-some, stretch-fixed, whole-fixed, one-fits, one-misses, one-whole, one-open, one-rounds, waiting-whole, waiting-split, waiting-open, waiting-misses}
+use Rattle.recurrence.proofs.Verdicts.{split-some, stretch-fixed, whole-fixed, one-fits, one-misses, one-whole, one-open, one-rounds, waiting-whole}
+use Rattle.recurrence.proofs.Verdicts.{waiting-split, waiting-open, waiting-misses}
 use Rattle.report.specs.Report.{reportText, answerTo, answerText, reported, reportedInto, longestReport}
 use Rattle.report.proofs.Fits.{answer-fits}
 use Rattle.runs.specs.Runs.{runText, ranIn, ranInto, longestRun}
@@ -167,16 +168,19 @@ demand-2-answer s = (right, wrong, cut (decLe (length s) (longestText + 1)))
         ap answerTo (too-long (take (longestText + 1) s) (omega arith) ∙ sym (too-long s (omega arith)))
 
     line-of : (why : Refusal) → Reading → List ℕ
-    line-of why r = line (spelled "refused") (digits (numberOfOutcome (r .outcome)) ∷ digits (lineOfOutcome (r .outcome)) ∷ digits (fieldOfOutcome (r .outcome)) ∷ [])
+    line-of why r = line (spelled "refused")
+        (digits (numberOfOutcome (r .outcome)) ∷ digits (lineOfOutcome (r .outcome)) ∷ digits (fieldOfOutcome (r .outcome)) ∷ [])
 
     wrong : (textNumber s ≡ 0 → ⊥)
-        → answerText s ≡ line (spelled "refused") (digits (textNumber s) ∷ digits (lineOfOutcome (reading s .outcome)) ∷ digits (fieldOfOutcome (reading s .outcome)) ∷ [])
+        → answerText s ≡ line (spelled "refused")
+        (digits (textNumber s) ∷ digits (lineOfOutcome (reading s .outcome)) ∷ digits (fieldOfOutcome (reading s .outcome)) ∷ [])
     wrong z =
         let x = refused-text s z in
         let why = x .0 in
         let n = text-refuses s why (x .1) .high in
         ap answerTo (x .1)
-        ∙ ap (λ l. line (spelled "refused") (digits (numberOf why) ∷ l)) (if-false [] (digits (lineOf why) ∷ digits (fieldOf why) ∷ []) (lt-leb 20 (numberOf why) (omega arith)))
+        ∙ ap (λ l. line (spelled "refused") (digits (numberOf why) ∷ l))
+        (if-false [] (digits (lineOf why) ∷ digits (fieldOf why) ∷ []) (lt-leb 20 (numberOf why) (omega arith)))
         ∙ sym (ap (λ a. line-of why (readingOf a)) (x .1))
 
 pub demand-2-room : AnswerRoom
@@ -193,7 +197,8 @@ demand-2-room s d = (number, nothing, room)
     nothing : (numberOfWritten (answeredIn s d) ≡ 0 → ⊥) → answeredInto s d ≡ d
     nothing = go (leb (length (answerText s)) (length d))
       where
-        go : (c : Bool) → (numberOfWritten (if c then Bytes (length (answerText s)) else NotWritten NoRoom) ≡ 0 → ⊥) → (if c then over (answerText s) d else d) ≡ d
+        go : (c : Bool) → (numberOfWritten (if c then Bytes (length (answerText s)) else NotWritten NoRoom) ≡ 0 → ⊥)
+            → (if c then over (answerText s) d else d) ≡ d
         go true z = absurd (z refl)
         go false z = refl
 
@@ -213,8 +218,11 @@ demand-2-run s m d z few =
     let written-is : ranIn (readText s) m d ≡ lengthIn (runText t m) d = ap (λ a. ranIn a m d) (x .1) ∙ if-false _ _ l in (
       written-is ∙ ap (λ u. lengthIn (runText u m) d) b,
       ap (λ a. ranInto a m d) (x .1) ∙ if-false _ _ l ∙ ap (λ u. placed (runText u m) d) b,
-      (λ h. (let k : length (runText t m) ≤ length d = omega (arith, run-fits t m r few) in ap numberOfWritten (written-is ∙ if-true _ _ (le-leb _ (length d) k)))),
-      (λ e. ap (λ a. leftFor a m d) (x .1) ∙ if-false _ _ l ∙ elements (ltb (length d) (length t)) (instants t m) d (sym (ap (λ a. answerFor a m d) (x .1) ∙ if-false _ _ l) ∙ e) ∙ ap (λ u. over (instants u m) d) b),
+      (λ h. (let k : length (runText t m) ≤ length d
+          = omega (arith, run-fits t m r few) in ap numberOfWritten (written-is ∙ if-true _ _ (le-leb _ (length d) k)))),
+      (λ e. ap (λ a. leftFor a m d) (x .1) ∙ if-false _ _ l
+          ∙ elements (ltb (length d) (length t)) (instants t m) d (sym (ap (λ a. answerFor a m d) (x .1) ∙ if-false _ _ l) ∙ e)
+          ∙ ap (λ u. over (instants u m) d) b),
     )
   where
     elements : (c : Bool) (xs d : List ℕ) → _≡_ {A = ℕ} (if c then 22 else 0) 0 → (if c then d else over xs d) ≡ over xs d
@@ -247,7 +255,8 @@ demand-2-given v ok = ((λ n h l. (figuresOf (rowAt (tableOf v)) (n - 1), told v
         go : Dec (n ≤ length t) → getD (slots t) (n - 1) (slotOf (NoFigures NoSuchRow)) .answer ≡ rowAnswer v n
         go (yes y) =
             ap (λ (x : Slot). x .answer)
-            (filled-at (λ k. slotOf (RowIs (figuresOf (rowAt t) k))) (length t) (replicate (mostRows - length t) (slotOf (NoFigures NoSuchRow))) (slotOf (NoFigures NoSuchRow)) (n - 1) (omega arith))
+            (filled-at (λ k. slotOf (RowIs (figuresOf (rowAt t) k))) (length t) (replicate (mostRows - length t) (slotOf (NoFigures NoSuchRow)))
+            (slotOf (NoFigures NoSuchRow)) (n - 1) (omega arith))
             ∙ sym (told v n ok h y)
         go (no y) =
             ap (λ (x : Slot). x .answer)
@@ -434,9 +443,26 @@ status : (a m : Bool) → (a ≡ true → m ≡ false)
     × (((if a then TableFits else if m then TableMisses else TableOpen) ≡ TableMisses) ↔ (m ≡ true))
     × (((if a then TableFits else if m then TableMisses else TableOpen) ≡ TableOpen) ↔ ((a ≡ false) × (m ≡ false)))
 status true true h = absurd (false≢true (sym (h refl)))
-status true false h = (((λ e. refl), (λ e. refl)), ((λ e. never (cc)), (λ e. absurd (false≢true e))), ((λ e. never (cc)), (λ e. absurd (false≢true (sym (e .0))))))
-status false true h = (((λ e. never (cc)), (λ e. absurd (false≢true e))), ((λ e. refl), (λ e. refl)), ((λ e. never (cc)), (λ e. absurd (false≢true (sym (e .1))))))
-status false false h = (((λ e. never (cc)), (λ e. absurd (false≢true e))), ((λ e. never (cc)), (λ e. absurd (false≢true e))), ((λ e. (refl, refl)), (λ e. refl)))
+status true false h = (
+  ((λ e. refl), (λ e. refl)),
+  ((λ e. never (cc)), (λ e. absurd (false≢true e))),
+  (
+    (λ e. never (cc)),
+    (λ e. absurd
+        (false≢true (sym (e .0)))),
+  ),
+)
+status false true h = (
+  ((λ e. never (cc)), (λ e. absurd (false≢true e))),
+  ((λ e. refl), (λ e. refl)),
+  (
+    (λ e. never (cc)),
+    (λ e. absurd
+        (false≢true (sym (e .1)))),
+  ),
+)
+status false false h
+    = (((λ e. never (cc)), (λ e. absurd (false≢true e))), ((λ e. never (cc)), (λ e. absurd (false≢true e))), ((λ e. (refl, refl)), (λ e. refl)))
 
 misses-is : (x : Verdict) → misses x ≡ true → x ≡ Misses
 misses-is (Fits b r) e = absurd (false≢true e)
@@ -475,11 +501,17 @@ module _ (v : TableValue) (ok : wellFormed v ≡ true) where
   misses-some = (
     (λ e.
         let x = any-below-some misses (verdict (rowAt (tableOf v))) (length (tableOf v)) e in
-        let z : x .0 + 1 - 1 ≡ x .0 = omega arith in
-        (x .0 + 1, figuresOf (rowAt (tableOf v)) (x .0 + 1 - 1), told v (x .0 + 1) ok (omega arith) (omega (arith, x .1)), ap (verdict (rowAt (tableOf v))) z ∙ misses-is _ (x .2))),
+        let z : x .0 + 1 - 1 ≡ x .0 = omega arith in (
+          x .0 + 1,
+          figuresOf (rowAt (tableOf v)) (x .0 + 1 - 1),
+          told v (x .0 + 1) ok (omega arith) (omega (arith, x .1)),
+          ap
+              (verdict (rowAt (tableOf v))) z ∙ misses-is _ (x .2),
+        )),
     (λ x.
         let q = asked v (x .0) (x .1) (x .2) in
-        some-any-below misses (verdict (rowAt (tableOf v))) (length (tableOf v)) (x .0 - 1) (there v (x .0) (x .1) q) (ap misses (sym (verdict-is v (x .0) (x .1) q) ∙ x .3))),
+        some-any-below misses (verdict (rowAt (tableOf v))) (length (tableOf v)) (x .0 - 1) (there v (x .0) (x .1) q)
+        (ap misses (sym (verdict-is v (x .0) (x .1) q) ∙ x .3))),
   )
 
   overall-is : tableFigures v .verdict ≡ overall (verdicts (tableOf v))

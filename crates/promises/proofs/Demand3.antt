@@ -113,7 +113,13 @@ demand-3-exact v n a h one b R x = (reach, at)
     reach : R .0 ≤ mostTicks
     reach =
         let r = right-rows v n a q (n - 1) (omega arith) in
-        omega (arith, fits-deadline (tableOf v) (right-table v n a q) (n - 1) (there v n a q) e, sane (row v n) r .deadline-fits, number-range (row v n .period) (row-period (row v n) r))
+        omega (
+          arith,
+          fits-deadline (tableOf v) (right-table v n a q) (n - 1) (there v n a q) e,
+          sane (row v n) r .deadline-fits,
+          number-range
+              (row v n .period) (row-period (row v n) r),
+        )
 
     at : (m : ℕ) → m ≤ mostTicks → (R .0 ≤ m → completed v m n ≡ At (record { 0 = R .0 })) × (m < R .0 → completed v m n ≡ Not)
     at m l =

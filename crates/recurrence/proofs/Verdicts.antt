@@ -154,7 +154,8 @@ module _ (rows : ℕ → Row) (k : ℕ) where
     whole-fixed = stretch-fixed (own (rows k)) (row .own-some) (row .own-fits)
 
     -- whole's right side is worked out so often
-    pub whole-took : Took (right rows k (own (rows k))) (rows k .deadline) (own (rows k)) (rounds (right rows k (own (rows k))) (rows k .deadline) (own (rows k)))
+    pub whole-took : Took (right rows k (own (rows k))) (rows k .deadline) (own (rows k))
+        (rounds (right rows k (own (rows k))) (rows k .deadline) (own (rows k)))
     whole-took = stretch-took (own (rows k)) (row .own-some) (row .own-fits)
 
     -- whole is none exactly where no positive fixed point is at most D

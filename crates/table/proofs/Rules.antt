@@ -155,7 +155,8 @@ rows-refl : (vs : List RowValue) → sameRows vs vs ≡ true
 unfolding sameRows sameRow
 rows-refl [] = refl
 rows-refl (v ∷ vs) =
-    and-both (and-both (same-refl (v .name)) (and-both (eq-eqb (v .period .0) _ refl) (and-both (eq-eqb (v .deadline .0) _ refl) (same-refl (map ticks (v .times)))))) (rows-refl vs)
+    and-both (and-both (same-refl (v .name))
+    (and-both (eq-eqb (v .period .0) _ refl) (and-both (eq-eqb (v .deadline .0) _ refl) (same-refl (map ticks (v .times)))))) (rows-refl vs)
 
 -- A WELL-FORMED VALUE IS THE VALUE OF THE TABLE THAT IT STANDS FOR, and that is a right table
 pub value-forth : (v : TableValue) → wellFormed v ≡ true → (v ≡ tableValue (tableOf v)) × (rightTable (tableOf v) ≡ true)

@@ -28,7 +28,17 @@ over-next : (bs cs d : List ℕ) (k : ℕ) → k ≡ length d - length bs → le
 unfolding over
 over-next bs cs d k e h =
     let g : length (drop (length bs) d) ≤ k = simp length-drop (omega arith) in
-    rw (take-append-seam, drop-append-seam, take-all k (drop (length bs) d) g, drop-of-length-le (drop (length bs) d) g, append-nil, drop-drop, length-append, append-assoc)
+    rw (
+      take-append-seam,
+      drop-append-seam,
+      take-all k (drop (length bs) d) g,
+      drop-of-length-le
+          (drop (length bs) d) g,
+      append-nil,
+      drop-drop,
+      length-append,
+      append-assoc,
+    )
 
 -- the same, as code has it: x is the buffer so far, and k bytes from at on are lent
 pub over-part : (bs cs d x : List ℕ) (at k : ℕ) → x ≡ over bs d → at ≡ length bs → k ≡ length x - at → length bs + length cs ≤ length d

@@ -31,21 +31,24 @@ pub below-same : {A : Type 0} (f g : ℕ → A) (n : ℕ) → ((k : ℕ) → k <
 unfolding below
 below-same f g zero h = refl
 below-same f g (suc n) h =
-    map-below f n ∙ ap (λ l. l ++ (f n ∷ [])) (below-same f g n (λ k l. h k (omega arith))) ∙ ap (λ x. map g (below n) ++ (x ∷ [])) (h n (omega arith)) ∙ sym (map-below g n)
+    map-below f n ∙ ap (λ l. l ++ (f n ∷ [])) (below-same f g n (λ k l. h k (omega arith))) ∙ ap (λ x. map g (below n) ++ (x ∷ [])) (h n (omega arith))
+    ∙ sym (map-below g n)
 
 -- the first n elements of a list are those at 0, 1, 2, ..
 pub take-below : {A B : Type 0} (f : A → B) (xs : List A) (d : A) (n : ℕ) → n ≤ length xs → map f (take n xs) ≡ map (λ k. f (getD xs k d)) (below n)
 unfolding below
 take-below f xs d zero h = refl
 take-below f xs d (suc n) h =
-    ap (map f) (take-suc xs n d h) ∙ map-snoc f (take n xs) (getD xs n d) ∙ ap (λ l. l ++ (f (getD xs n d) ∷ [])) (take-below f xs d n (omega arith)) ∙ sym (map-below (λ k. f (getD xs k d)) n)
+    ap (map f) (take-suc xs n d h) ∙ map-snoc f (take n xs) (getD xs n d) ∙ ap (λ l. l ++ (f (getD xs n d) ∷ [])) (take-below f xs d n (omega arith))
+    ∙ sym (map-below (λ k. f (getD xs k d)) n)
 
 -- and so are all
 pub all-below : {A B : Type 0} (f : A → B) (xs : List A) (d : A) → map f xs ≡ map (λ k. f (getD xs k d)) (below (length xs))
 all-below f xs d = ap (map f) (sym (take-length xs)) ∙ take-below f xs d (length xs) (omega arith)
 
 -- one element more in an array of m, the rest of which holds z
-fill : {A : Type 0} (xs : List A) (z y : A) (m k : ℕ) → length xs ≡ k → k < m → set (xs ++ replicate (m - k) z) k y ≡ (xs ++ (y ∷ [])) ++ replicate (m - (k + 1)) z
+fill : {A : Type 0} (xs : List A) (z y : A) (m k : ℕ) → length xs ≡ k → k < m
+    → set (xs ++ replicate (m - k) z) k y ≡ (xs ++ (y ∷ [])) ++ replicate (m - (k + 1)) z
 fill xs z y m k e h =
     let a : m - k ≡ suc (m - (k + 1)) = omega arith in
     ap (λ n. set (xs ++ replicate n z) k y) a ∙ set-at xs z (replicate (m - (k + 1)) z) y k e ∙ sym (append-snoc xs y (replicate (m - (k + 1)) z))
@@ -77,13 +80,15 @@ filled-at f (suc n) xs d k h = go (decLe n k) (filled-at f n (f n ∷ xs) d k)
 
 -- an array of m whose first elements are f of those of xs
 module _ {A B : Type 0} (f : A → B) (z : B) where
-  pub filled-next : (xs : List A) (m k : ℕ) (d : A) (ys : List B) (y : B) → k < length xs → k < m → ys ≡ map f (take k xs) ++ replicate (m - k) z → y ≡ f (getD xs k d)
+  pub filled-next : (xs : List A) (m k : ℕ) (d : A) (ys : List B) (y : B) → k < length xs → k < m → ys ≡ map f (take k xs) ++ replicate (m - k) z
+      → y ≡ f (getD xs k d)
       → set ys k y ≡ map f (take (k + 1) xs) ++ replicate (m - (k + 1)) z
   filled-next xs m k d ys y h l e ey =
       let a : length (map f (take k xs)) ≡ k = length-map (take k xs) f ∙ length-take-le k xs (omega arith) in
       ap (λ v. set v k y) e ∙ fill (map f (take k xs)) z y m k a l
       ∙ ap (λ v. (map f (take k xs) ++ (v ∷ [])) ++ replicate (m - (k + 1)) z) ey
-      ∙ ap (λ v. v ++ replicate (m - (k + 1)) z) (sym (map-snoc f (take k xs) (getD xs k d)) ∙ ap (map f) (sym (take-suc xs k d h)) ∙ ap (λ n. map f (take n xs)) (sym (add-one k)))
+      ∙ ap (λ v. v ++ replicate (m - (k + 1)) z)
+      (sym (map-snoc f (take k xs) (getD xs k d)) ∙ ap (map f) (sym (take-suc xs k d h)) ∙ ap (λ n. map f (take n xs)) (sym (add-one k)))
 
   pub filled-all : (xs : List A) (m k : ℕ) (ys : List B) → length xs ≡ m → m ≤ k → ys ≡ map f (take k xs) ++ replicate (m - k) z → ys ≡ map f xs
   filled-all xs m k ys len h e =
@@ -120,7 +125,8 @@ module _ {A : Type 0} (test : A → Bool) (f : ℕ → A) where
   unfolding below any _or_
   any-below-some zero e = absurd (false≢true e)
   any-below-some (suc n) e =
-      go (any test (map f (below n))) refl (test (f n)) refl (sym (any-snoc test (map f (below n)) (f n)) ∙ sym (ap (any test) (map-below f n)) ∙ e) (any-below-some n)
+      go (any test (map f (below n))) refl (test (f n)) refl (sym (any-snoc test (map f (below n)) (f n)) ∙ sym (ap (any test) (map-below f n)) ∙ e)
+      (any-below-some n)
     where
       go : (a : Bool) → any test (map f (below n)) ≡ a → (b : Bool) → test (f n) ≡ b → (any test (map f (below n)) or test (f n)) ≡ true
           → (any test (map f (below n)) ≡ true → (k : ℕ) × (k < n) × (test (f k) ≡ true)) → (k : ℕ) × (k < suc n) × (test (f k) ≡ true)

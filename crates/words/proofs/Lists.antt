@@ -116,7 +116,8 @@ length-padded n xs h = omega (arith, length-append xs (replicate (n - length xs)
 
 -- two lists of the same length, compared from the front
 
-pub same-at : (xs ys : List ℕ) (i : ℕ) → i < length xs → i < length ys → same (drop i xs) (drop i ys) ≡ (eqb (getD xs i 0) (getD ys i 0) and same (drop (i + 1) xs) (drop (i + 1) ys))
+pub same-at : (xs ys : List ℕ) (i : ℕ) → i < length xs → i < length ys
+    → same (drop i xs) (drop i ys) ≡ (eqb (getD xs i 0) (getD ys i 0) and same (drop (i + 1) xs) (drop (i + 1) ys))
 unfolding same
 same-at xs ys i h k = rw (drop-cons xs i 0 h, drop-cons ys i 0 k, add-one)
 

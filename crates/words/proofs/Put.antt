@@ -37,7 +37,8 @@ pub put-part : {bs d x : List ℕ} {at : ℕ} (cs y : List ℕ) (r : ℕ) → Pu
     → (r ≡ length cs) × (y ≡ over cs (take (length x - at) (drop at x))) → Put (bs ++ cs) d (spliced x at y) (at + r)
 put-part {bs} {d} {x} {at} cs y r p h e =
     let l = length-append bs cs in
-    put-over (bs ++ cs) d (spliced x at y) (at + r) (omega (arith, l, p .end, e .0)) (rw (e .1) (over-part bs cs d x at (length x - at) (p .front) (p .end) refl h)) (omega (arith, l))
+    put-over (bs ++ cs) d (spliced x at y) (at + r) (omega (arith, l, p .end, e .0))
+    (rw (e .1) (over-part bs cs d x at (length x - at) (p .front) (p .end) refl h)) (omega (arith, l))
 
 -- what is put next lies within the buffer, and has the room that is left
 pub put-within : {bs d x : List ℕ} {at : ℕ} → Put bs d x at → length bs ≤ length d → at ≤ length x

@@ -10,12 +10,14 @@ use Rattle.words.specs.Lists.{all}
 use Rattle.words.proofs.Choice.{and-true, and-false}
 use Rattle.words.proofs.Lists.{all-at, all-end}
 use Rattle.decimal.specs.Decimal.{digit, value, leads}
-use Rattle.decimal.proofs.Reading.{is-digit, digit-low, digit-high, leads-none, leads-one, leads-many, leads-zero, value-at, value-end, value-le, number-leads, number-digit, number-high, number-low, number-is}
+use Rattle.decimal.proofs.Reading.{is-digit, digit-low, digit-high, leads-none, leads-one, leads-many, leads-zero, value-at, value-end}
+use Rattle.decimal.proofs.Reading.{value-le, number-leads, number-digit, number-high, number-low, number-is}
 use Rattle.decimal.proofs.read.Statement.{statement}
 use Rattle.decimal.proofs.read.Tie as tie
 
 abbrev Inv-loop : tie.InvT-loop
-Inv-loop bytes lo hi n v₀ i₀ v i = (i ≤ length bytes) × (v ≤ hi) × (leads bytes ≡ true) × (all digit bytes ≡ all digit (drop i bytes)) × (value 0 bytes ≡ value v (drop i bytes))
+Inv-loop bytes lo hi n v₀ i₀ v i = (i ≤ length bytes) × (v ≤ hi) × (leads bytes ≡ true) × (all digit bytes ≡ all digit (drop i bytes))
+    × (value 0 bytes ≡ value v (drop i bytes))
 
 abbrev μ-loop : tie.MeasureT-loop
 μ-loop bytes lo hi n v₀ i₀ v i = length bytes - i
@@ -58,7 +60,8 @@ returns-5 : tie.Need-returns-5 Inv-loop μ-loop
 returns-5 c =
     let l = c .before .before .before .before .before .loop in
     let s = c .before .before .before .before .before .before .before .before .args .bytes .now in
-    let e : value 0 s ≡ value (l .v * 10 + (getD s (l .i) 0 - 48)) (drop (l .i + 1) s) = l .inv .4 ∙ value-at (l .v) s (l .i) (c .before .before .before .before .loop-test .taken) in
+    let e : value 0 s ≡ value (l .v * 10 + (getD s (l .i) 0 - 48)) (drop (l .i + 1) s) = l .inv .4
+    ∙ value-at (l .v) s (l .i) (c .before .before .before .before .loop-test .taken) in
     sym (number-high _ _ _ (omega (arith, e, c .if6 .taken, value-le (l .v * 10 + (getD s (l .i) 0 - 48)) (drop (l .i + 1) s))))
 
 mul-if7 : tie.Need-mul-if7 Inv-loop μ-loop
@@ -71,7 +74,8 @@ returns-6 : tie.Need-returns-6 Inv-loop μ-loop
 returns-6 c =
     let l = c .before .before .before .before .before .before .loop in
     let s = c .before .before .before .before .before .before .before .before .before .args .bytes .now in
-    let e : value 0 s ≡ value (l .v * 10 + (getD s (l .i) 0 - 48)) (drop (l .i + 1) s) = l .inv .4 ∙ value-at (l .v) s (l .i) (c .before .before .before .before .before .loop-test .taken) in
+    let e : value 0 s ≡ value (l .v * 10 + (getD s (l .i) 0 - 48)) (drop (l .i + 1) s) = l .inv .4
+    ∙ value-at (l .v) s (l .i) (c .before .before .before .before .before .loop-test .taken) in
     sym (number-high _ _ _ (omega (arith, e, c .if7 .taken, value-le (l .v * 10 + (getD s (l .i) 0 - 48)) (drop (l .i + 1) s))))
 
 mul-v : tie.Need-mul-v Inv-loop μ-loop

@@ -44,7 +44,8 @@ returns-2 c =
     let l = c .before .before .before .before .before .before .loop in
     let a = c .before .before .before .before .before .before .before .args in
     let e : same (a .name) (getD (a .t1) (l .i) noValue .name) ≡ true = sym (c .before .same-name .ensures) ∙ c .if2 .taken in
-    sym (l .inv .2 ∙ name-in-at (a .name) (a .t1) (a .n) (l .i) (c .before .before .before .before .if1 .left) (omega (arith, l .inv .1, c .before .before .before .before .before .loop-test .taken)) ∙ or-true _ e)
+    sym (l .inv .2 ∙ name-in-at (a .name) (a .t1) (a .n) (l .i) (c .before .before .before .before .if1 .left)
+    (omega (arith, l .inv .1, c .before .before .before .before .before .loop-test .taken)) ∙ or-true _ e)
 
 add-i : tie.Need-add-i Inv-loop μ-loop
 add-i c = search needs
@@ -56,8 +57,13 @@ loop-again : tie.Need-loop-again Inv-loop μ-loop
 loop-again c =
     let l = c .before .before .before .before .before .before .loop in
     let a = c .before .before .before .before .before .before .before .args in
-    let e : same (a .name) (getD (a .t1) (l .i) noValue .name) ≡ false = sym (c .before .same-name .ensures) ∙ c .if2 .left in
-    (search needs, l .inv .1, l .inv .2 ∙ name-in-at (a .name) (a .t1) (a .n) (l .i) (c .before .before .before .before .if1 .left) (omega (arith, l .inv .1, c .before .before .before .before .before .loop-test .taken)) ∙ or-false _ e)
+    let e : same (a .name) (getD (a .t1) (l .i) noValue .name) ≡ false = sym (c .before .same-name .ensures) ∙ c .if2 .left in (
+      search needs,
+      l .inv .1,
+      l .inv .2
+          ∙ name-in-at (a .name) (a .t1) (a .n) (l .i) (c .before .before .before .before .if1 .left)
+          (omega (arith, l .inv .1, c .before .before .before .before .before .loop-test .taken)) ∙ or-false _ e,
+    )
 
 returns-3 : tie.Need-returns-3 Inv-loop μ-loop
 returns-3 c =

@@ -47,8 +47,13 @@ loop-again : tie.Need-loop-again Inv-loop μ-loop
 loop-again c =
     let l = c .before .before .loop in
     let a = c .before .before .before .args in
-    let t = c .before .loop-test .taken in
-    (search needs, l .inv .1, l .inv .2, l .inv .3 ∙ same-at (a .t1) (a .t2) (l .i) (omega (arith, t, l .inv .1)) (omega (arith, t, l .inv .2)) ∙ and-true _ (eq-eqb _ _ (c .if1 .left)))
+    let t = c .before .loop-test .taken in (
+      search needs,
+      l .inv .1,
+      l .inv .2,
+      l .inv .3 ∙ same-at (a .t1) (a .t2) (l .i) (omega (arith, t, l .inv .1)) (omega (arith, t, l .inv .2))
+          ∙ and-true _ (eq-eqb _ _ (c .if1 .left)),
+    )
 
 returns-2 : tie.Need-returns-2 Inv-loop μ-loop
 returns-2 c =

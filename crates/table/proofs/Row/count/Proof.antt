@@ -14,7 +14,8 @@ use Rattle.table.proofs.Row.count.Statement.{statement}
 use Rattle.table.proofs.Row.count.Tie as tie
 
 abbrev Inv-loop : tie.InvT-loop
-Inv-loop times count₀ count = (count ≤ mostTimes) × (length (map ticks times) ≡ mostTimes) × (count + length (upTo 0 (drop count (map ticks times))) ≡ length (upTo 0 (map ticks times)))
+Inv-loop times count₀ count = (count ≤ mostTimes) × (length (map ticks times) ≡ mostTimes)
+    × (count + length (upTo 0 (drop count (map ticks times))) ≡ length (upTo 0 (map ticks times)))
 
 abbrev μ-loop : tie.MeasureT-loop
 μ-loop times count₀ count = mostTimes - count
@@ -46,8 +47,15 @@ loop-less c = search needs
 loop-again : tie.Need-loop-again Inv-loop μ-loop
 loop-again c =
     let l = c .before .before .loop in
-    let ts = c .before .before .before .before .args .self .times in
-    (omega arith, l .inv .1, omega (arith, upTo-at 0 (map ticks ts) (l .count) (omega (arith, l .inv .1)) (λ e. c .if1 .left (sym (time-at ts (l .count)) ∙ e))))
+    let ts = c .before .before .before .before .args .self .times in (
+      omega arith,
+      l .inv .1,
+      omega (
+        arith,
+        upTo-at 0 (map ticks ts) (l .count) (omega (arith, l .inv .1))
+            (λ e. c .if1 .left (sym (time-at ts (l .count)) ∙ e)),
+      ),
+    )
 
 returns-2 : tie.Need-returns-2 Inv-loop μ-loop
 returns-2 c =

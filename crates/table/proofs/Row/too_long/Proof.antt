@@ -15,7 +15,8 @@ use Rattle.table.proofs.Row.too_long.Statement.{statement}
 use Rattle.table.proofs.Row.too_long.Tie as tie
 
 abbrev Inv-loop : tie.InvT-loop
-Inv-loop times left₀ i₀ left i = (i ≤ mostTimes) × (length (map ticks times) ≡ mostTimes) × (left + sum (map ticks times) ≡ left₀ + sum (drop i (map ticks times)))
+Inv-loop times left₀ i₀ left i = (i ≤ mostTimes) × (length (map ticks times) ≡ mostTimes)
+    × (left + sum (map ticks times) ≡ left₀ + sum (drop i (map ticks times)))
 
 abbrev μ-loop : tie.MeasureT-loop
 μ-loop times left₀ i₀ left i = mostTimes - i
@@ -37,7 +38,15 @@ returns c =
     let l = c .before .before .before .before .loop in
     let ts = c .before .before .before .before .before .before .args .self .times in
     let d = c .before .before .before .before .before .before .args .self .deadline .0 in
-    let h : d < sum (map ticks ts) = omega (arith, c .if1 .taken, l .inv .2, time-at ts (l .i), sum-at (map ticks ts) (l .i) (omega (arith, l .inv .1, c .before .before .before .loop-test .taken))) in
+    let h : d < sum (map ticks ts)
+    = omega (
+      arith,
+      c .if1 .taken,
+      l .inv .2,
+      time-at ts (l .i),
+      sum-at (map ticks ts) (l .i)
+          (omega (arith, l .inv .1, c .before .before .before .loop-test .taken)),
+    ) in
     sym (lt-ltb d (sum (map ticks ts)) h)
 
 add-i : tie.Need-add-i Inv-loop μ-loop
