@@ -2,15 +2,14 @@
 use mathlib.Core.Path.{_≡_, refl, sym, ap, _∙_}
 use mathlib.Core.Bool.{Bool, true, false, not, false≢true}
 use mathlib.Core.List.{List, [], _∷_, _++_, map, append-assoc, append-nil}
-use mathlib.Core.Logic.{_↔_}
-use Prim.Native.Nat.{ℕ, zero, suc, _+_, _-_, _≤_, _<_}
+use Prim.Native.Nat.{ℕ, zero, suc, _+_, _-_, _%_, _≤_, _<_}
 use native.Mathlib.Omega.{arith}
-use lib.Dec.{eqb, ltb}
+use lib.Dec.{eqb, ltb, leb}
 use lib.ListN.{length, getD, length-append, length-map}
-use borrow.Author.Tests.{eqb-true, eqb-false, ne-eqb, ltb-true, ltb-false, lt-ltb, le-ltb, not-true}
-use Rattle.words.specs.Choice.{if_then_else_, _and_}
+use borrow.Author.Tests.{eqb-true, eqb-false, ne-eqb, ltb-true, ltb-false, lt-ltb, le-ltb, lt-leb, not-true}
+use Rattle.words.specs.Choice.{if_then_else_, _and_, _or_}
 use Rattle.words.specs.Lists.{sum, all, any}
-use Rattle.words.proofs.Choice.{and-parts, and-both}
+use Rattle.words.proofs.Choice.{and-parts, and-both, and-false, and-last-false}
 use Rattle.words.proofs.Lists.{lacks}
 use Rattle.decimal.specs.Decimal.{digits, readNumber}
 use Rattle.decimal.specs.declared.Number.the-variants.{Is, No}
@@ -18,9 +17,9 @@ use Rattle.decimal.specs.declared.Number.{Number as Read}
 use Rattle.decimal.proofs.Reading.{number-digits, digits-number}
 use Rattle.fields.specs.Fields.{lineFeed, joined}
 use Rattle.refusals.specs.declared.Refusal.{Refusal}
-use Rattle.refusals.specs.declared.Refusal.the-variants.{ManyLines, AfterWaiting, FieldCount, BadName, BadNumber, LateDeadline, LongTimes, NameTaken}
+use Rattle.refusals.specs.declared.Refusal.the-variants.{AfterWaiting, FieldCount, BadName, BadNumber, LateDeadline, LongTimes, NameTaken}
 use Rattle.refusals.specs.Refusals.{numberOf, lineOf, fieldOf}
-use Rattle.table.specs.Limits.{mostRows, largestNumber, longestText}
+use Rattle.table.specs.Limits.{mostRows, mostTimes, largestNumber}
 use Rattle.table.specs.Paper.{Row, Table, rightName, rightNumber, rightCount, rightRow, waits, named, rightRows}
 use Rattle.table.proofs.Rules.{row-name, row-count, row-order, row-sum, number-range}
 use Rattle.text.specs.Split.{lines, fields, onFirst}
@@ -31,8 +30,7 @@ use Rattle.text.proofs.Lines.{numbersOf, row-numbers, right-row, fieldsOf, line
 use Rattle.text.proofs.Back.{withNumbers, row-made, fields-back}
 use Rattle.text.proofs.Numbers.{InLines, Fared, empty, long, unended, lined, fared}
 use Rattle.text.proofs.Steps.{fields-over, bad-name, next-name, bad-number, next-number, late-deadline, long-times, name-taken, row-checked, after-waiting, field-count, bad-field, row-read, many-lines, bad-line, next-line, text-lines}
-use Rattle.promises.specs.Demands.{reading, textNumber}
-use Rattle.promises.specs.Places.{textLine, textField, field, Number, Next, Spells, Wrong, due4, due5, due6, due7, due8, due9, due10, due11, RefusedAt, Places}
+use Rattle.promises.specs.Places.{counted, Number, Spells, Wrong, due4, due5, due6, due7, due8, due9, due10, due11, RefusedAt, Places}
 
 -- ---- every refusal has its reason
 
@@ -119,6 +117,30 @@ fields-cause (x ∷ xs) n w e = go (rightName x) refl e
         let k : 2 + i .left - 1 ≡ suc (i .left) = omega arith in
         rw (i .is) (no-number (2 + i .left) q (omega arith) (omega (arith, i .there)) (shifted (i .left) (i .before)) (rw k (i .not-one)))
 
+-- 4, 6, 8 or 10 fields
+
+other-count : (k : ℕ) → (k ≡ 4 → ⊥) → (k ≡ 6 → ⊥) → (k ≡ 8 → ⊥) → (k ≡ 10 → ⊥) → (b : Bool) → eqb ((k - fixedFields) % 2) 1 ≡ b → rightFields k ≡ false
+unfolding rightFields rightCount
+other-count k p q r s true e =
+    and-last-false (eqb ((k - fixedFields) % 2) 1) (lt-leb (k - fixedFields) mostTimes (omega (arith, eqb-true ((k - fixedFields) % 2) 1 e)))
+other-count k p q r s false e = and-false (leb (k - fixedFields) mostTimes) e
+
+count-same : (k : ℕ) → any (eqb k) (4 ∷ 6 ∷ 8 ∷ 10 ∷ []) ≡ rightFields k
+unfolding any _or_ rightFields rightCount _and_
+count-same k = go (eqb k 4) refl (eqb k 6) refl (eqb k 8) refl (eqb k 10) refl
+  where
+    go : (a : Bool) → eqb k 4 ≡ a → (b : Bool) → eqb k 6 ≡ b → (c : Bool) → eqb k 8 ≡ c → (d : Bool) → eqb k 10 ≡ d
+        → (a or b or c or d or false) ≡ rightFields k
+    go true p b q c r d s = rw (eqb-true k 4 p)
+    go false p true q c r d s = rw (eqb-true k 6 q)
+    go false p false q true r d s = rw (eqb-true k 8 r)
+    go false p false q false r true s = rw (eqb-true k 10 s)
+    go false p false q false r false s =
+        sym (other-count k (eqb-false k 4 p) (eqb-false k 6 q) (eqb-false k 8 r) (eqb-false k 10 s) (eqb ((k - fixedFields) % 2) 1) refl)
+
+count-right : (l : List ℕ) → counted l ≡ rightFields (length (fields l))
+count-right l = count-same (length (fields l))
+
 -- what a line has given: a right row, of which it is the line, or a refusal that is due
 abbrev LineCause : ℕ → Table → List ℕ → Line → Type 0
 LineCause n t l (got r) = (ended l ≡ lineText r) × (any waits t ≡ false) × (rightRow r ≡ true) × (named (r .name) t ≡ false)
@@ -128,31 +150,29 @@ line-cause : (n : ℕ) (t : Table) (l : List ℕ) → length t < mostRows → Li
 unfolding readLine checkRow fieldsOf
 line-cause n t l h =
     if-both P (any waits t) (λ e. (refl, due5 h e))
-    (λ w. if-both P (rightFields (length (fields l))) (λ c. go w c (readFields n 1 noRow (fields l)) refl) (λ c. (refl, due6 (h, w) c)))
+    (λ w. if-both P (rightFields (length (fields l))) (λ c. go w c (readFields n 1 noRow (fields l)) refl) (λ c. (refl, due6 (h, w) (count-right l ∙ c))))
   where
     P : Line → Type 0
     P = LineCause n t l
 
     wrong : any waits t ≡ false → rightFields (length (fields l)) ≡ true → (w : Refusal) → WrongField n (fields l) w → P (bad w)
-    wrong w c x (no-name e) = (refl, due7 (h, w) c e)
-    wrong w c x (no-number y e a b g z) = (refl, due8 y (h, w) c e a b g z)
+    wrong w c x (no-name e) = (refl, due7 (h, w) (count-right l ∙ c) e)
+    wrong w c x (no-number y e a b g z) = (refl, due8 y (h, w) (count-right l ∙ c) e a b g z)
 
     go : any waits t ≡ false → rightFields (length (fields l)) ≡ true → (x : Line) → readFields n 1 noRow (fields l) ≡ x → P (onLine x (checkRow n t) bad)
     go w c (bad x) e = wrong w c x (fields-cause (fields l) n x e)
     go w c (got r) e =
         let i = fields-back (fields l) n r c e in
-        let k : Spells l r = record { written = i .written; name = i .name; count = i .count; numbers = i .numbers } in
-        if-both P (ltb (r .period) (r .deadline)) (λ a. (refl, due9 r (h, w) k (ltb-true (r .period) (r .deadline) a)))
-        (λ a. if-both P (ltb (r .deadline) (sum (r .times)))
-        (λ b. (refl, due10 r (h, w) k (ltb-false (r .period) (r .deadline) a) (ltb-true (r .deadline) (sum (r .times)) b)))
-        (λ b. if-both P (named (r .name) t)
-        (λ d. (refl, due11 r (h, w) k (ltb-false (r .period) (r .deadline) a) (ltb-false (r .deadline) (sum (r .times)) b) d))
-        (λ d. (
-          line-written l r (i .written),
-          w,
-          right-row r (i .name) (i .numbers) (i .count) (ltb-false (r .period) (r .deadline) a) (ltb-false (r .deadline) (sum (r .times)) b),
-          d,
-        ))))
+        let k : Spells l r = record { written = i .written; name = i .name; count = count-right l ∙ c; numbers = i .numbers } in
+        let D = r .deadline in
+        if-both P (ltb (r .period) D) (λ a. (refl, due9 r (h, w) k (ltb-true (r .period) D a)))
+        (λ a.
+        let p : D ≤ r .period = ltb-false (r .period) D a in
+        if-both P (ltb D (sum (r .times))) (λ b. (refl, due10 r (h, w) k (omega arith) (ltb-true D (sum (r .times)) b)))
+        (λ b.
+        let q : sum (r .times) ≤ D = ltb-false D (sum (r .times)) b in
+        if-both P (named (r .name) t) (λ d. (refl, due11 r (h, w) k p q d))
+        (λ d. (line-written l r (i .written), w, right-row r (i .name) (i .numbers) (i .count) p q, d))))
 
 -- the first bad one of lines below the rows t: right rows, then a line to be refused
 record Found (t : Table) (ls : List (List ℕ)) (w : Refusal) : Type 0 where
@@ -215,7 +235,8 @@ unfolding lines onFirst all
 lines-lack [] = refl
 lines-lack (x ∷ s) = go (eqb x lineFeed) refl (lines s) (lines-lack s)
   where
-    go : (b : Bool) → eqb x lineFeed ≡ b → (ls : List (List ℕ)) → all (lacks lineFeed) ls ≡ true → all (lacks lineFeed) (if b then [] ∷ ls else onFirst x ls) ≡ true
+    go : (b : Bool) → eqb x lineFeed ≡ b → (ls : List (List ℕ)) → all (lacks lineFeed) ls ≡ true
+        → all (lacks lineFeed) (if b then [] ∷ ls else onFirst x ls) ≡ true
     go true e ls h = and-both refl h
     go false e [] h = and-both (and-both (ap not e) refl) refl
     go false e (l ∷ ls) h = and-both (and-both (ap not e) (and-parts h .0)) (and-parts h .1)
@@ -256,7 +277,7 @@ text-cause s w e h = go (fared s)
           cut = sym (lines-text s n g) ∙ i .cut;
           oneLine = i .oneLine;
           kept = i .kept;
-          place = i .place;
+          place = omega (arith, i .place);
           wrong = i .wrong;
         }
 
@@ -326,12 +347,6 @@ name-refused (x ∷ xs) n h e = bad-name n 1 noRow x xs refl e
 
 -- a line that spells a row reads to it
 module _ (l : List ℕ) (r : Row) (k : Spells l r) where
-  spelled-fields : rightFields (length (fields l)) ≡ true
-  unfolding rightFields
-  spelled-fields =
-      let e : length (fields l) - fixedFields ≡ length (r .times) = omega (arith, ap length (k .written), length-map (r .times) digits) in
-      rw e (k .count)
-
   spelled-row : (n : ℕ) → readFields n 1 noRow (fields l) ≡ got r
   spelled-row n =
       ap (readFields n 1 noRow) (k .written)
@@ -340,7 +355,7 @@ module _ (l : List ℕ) (r : Row) (k : Spells l r) where
       ∙ ap got (row-made (r .name) (r .period) (r .deadline) (r .times))
 
   spelled-read : (n : ℕ) (t : Table) → any waits t ≡ false → readLine n t l ≡ checkRow n t r
-  spelled-read n t w = row-read n t l w spelled-fields r (spelled-row n)
+  spelled-read n t w = row-read n t l w (sym (count-right l) ∙ k .count) r (spelled-row n)
 
 said : (t : Table) (l : List ℕ) (ls : List (List ℕ)) → length t < mostRows → (w : Refusal) → readLine (length t + 1) t l ≡ bad w
     → Says (readLines t (l ∷ ls)) (numberOf w) (lineOf w) (fieldOf w)
@@ -355,25 +370,35 @@ some-fields (suc k) e = omega arith
 wrong-said : {t : Table} {l : List ℕ} {x y : ℕ} → Wrong t l x y → (ls : List (List ℕ)) → Says (readLines t (l ∷ ls)) x (length t + 1) y
 wrong-said {t} {l} (due4 e) ls = rw (many-lines t l ls e) (refl, refl, refl)
 wrong-said {t} {l} (due5 h e) ls = said t l ls h (AfterWaiting (length t + 1)) (after-waiting (length t + 1) t l e)
-wrong-said {t} {l} (due6 (h, w) e) ls = said t l ls h (FieldCount (length t + 1)) (field-count (length t + 1) t l w e)
+wrong-said {t} {l} (due6 (h, w) e) ls = said t l ls h (FieldCount (length t + 1)) (field-count (length t + 1) t l w (sym (count-right l) ∙ e))
 wrong-said {t} {l} (due7 (h, w) c e) ls =
     let n = length t + 1 in
-    said t l ls h (BadName n) (bad-field n t l w c (BadName n) (name-refused (fields l) n (some-fields (length (fields l)) c) e))
+    let k : rightFields (length (fields l)) ≡ true = sym (count-right l) ∙ c in
+    said t l ls h (BadName n) (bad-field n t l w k (BadName n) (name-refused (fields l) n (some-fields (length (fields l)) k) e))
 wrong-said {t} {l} (due8 y (h, w) c e a b g q) ls =
     let n = length t + 1 in
-    said t l ls h (BadNumber n y) (bad-field n t l w c (BadNumber n y) (field-refused (fields l) n y e a b g q))
+    said t l ls h (BadNumber n y) (bad-field n t l w (sym (count-right l) ∙ c) (BadNumber n y) (field-refused (fields l) n y e a b g q))
 wrong-said {t} {l} (due9 r (h, w) k a) ls =
     let n = length t + 1 in
     said t l ls h (LateDeadline n) (spelled-read l r k n t w ∙ late-deadline n t r a)
 wrong-said {t} {l} (due10 r (h, w) k a b) ls =
     let n = length t + 1 in
-    said t l ls h (LongTimes n) (spelled-read l r k n t w ∙ long-times n t r a (lt-ltb (r .deadline) (sum (r .times)) b))
+    said t l ls h (LongTimes n) (spelled-read l r k n t w ∙ long-times n t r (omega arith) (lt-ltb (r .deadline) (sum (r .times)) b))
 wrong-said {t} {l} (due11 r (h, w) k a b d) ls =
     let n = length t + 1 in
     said t l ls h (NameTaken n) (spelled-read l r k n t w ∙ name-taken n t r a (le-ltb (r .deadline) (sum (r .times)) b) d)
 
+-- the line of a right row has as many fields as it should
+row-counted : (r : Row) → rightRow r ≡ true → counted (rowLine r) ≡ true
+unfolding rightFields fieldsOf
+row-counted r e =
+    let f = fields-line r (row-name r e) in
+    let k : length (fields (rowLine r)) - fixedFields ≡ length (r .times) = omega (arith, ap length f, length-map (r .times) digits) in
+    count-right (rowLine r) ∙ rw k (row-count r e)
+
 -- right rows read on, whatever follows them
-rows-read : (rs t : Table) (u : List ℕ) → length t + length rs ≤ mostRows → rightRows t rs ≡ true → readLines t (lines (tableText rs ++ u)) ≡ readLines (t ++ rs) (lines u)
+rows-read : (rs t : Table) (u : List ℕ) → length t + length rs ≤ mostRows → rightRows t rs ≡ true
+    → readLines t (lines (tableText rs ++ u)) ≡ readLines (t ++ rs) (lines u)
 unfolding rightRows tableText joined fieldsOf
 rows-read [] t u h e = rw (append-nil t)
 rows-read (r ∷ rs) t u h e =
@@ -381,7 +406,7 @@ rows-read (r ∷ rs) t u h e =
     let k = and-parts (w .1) in
     let q = and-parts (k .1) in
     let m = row-name r (k .0) in
-    let p : Spells (rowLine r) r = record { written = fields-line r m; name = m; count = row-count r (k .0); numbers = row-numbers r (k .0) } in
+    let p : Spells (rowLine r) r = record { written = fields-line r m; name = m; count = row-counted r (k .0); numbers = row-numbers r (k .0) } in
     ap (λ s. readLines t (lines s)) (append-assoc (lineText r) (tableText rs) u)
     ∙ ap (readLines t) (lines-line r (tableText rs ++ u) m)
     ∙ next-line t (rowLine r) (lines (tableText rs ++ u)) (omega arith) r
