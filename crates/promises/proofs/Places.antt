@@ -23,13 +23,15 @@ use Rattle.table.specs.Limits.{mostRows, mostTimes, largestNumber}
 use Rattle.table.specs.Paper.{Row, Table, rightName, rightNumber, rightCount, rightRow, waits, named, rightRows}
 use Rattle.table.proofs.Rules.{row-name, row-count, row-order, row-sum, number-range}
 use Rattle.text.specs.Split.{lines, fields, onFirst}
-use Rattle.text.specs.Read.{Answer, accepted, refused, Line, got, bad, fixedFields, rightFields, noRow, withName, withNumber, onNumber, onLine, readFields, checkRow, readLine, readLines, readText, readingOf, numberOfOutcome, lineOfOutcome, fieldOfOutcome}
+use Rattle.text.specs.Read.{Answer, accepted, refused, Line, got, bad, fixedFields, rightFields, noRow, withName, withNumber}
+use Rattle.text.specs.Read.{onNumber, onLine, readFields, checkRow, readLine, readLines, readText, readingOf, numberOfOutcome, lineOfOutcome, fieldOfOutcome}
 use Rattle.text.specs.Write.{lineText, tableText}
 use Rattle.text.proofs.Split.{ended, lines-text, lines-ended}
 use Rattle.text.proofs.Lines.{numbersOf, row-numbers, right-row, fieldsOf, lineOf as rowLine, line-written, fields-line, lines-line}
 use Rattle.text.proofs.Back.{withNumbers, row-made, fields-back}
 use Rattle.text.proofs.Numbers.{InLines, Fared, empty, long, unended, lined, fared}
-use Rattle.text.proofs.Steps.{fields-over, bad-name, next-name, bad-number, next-number, late-deadline, long-times, name-taken, row-checked, after-waiting, field-count, bad-field, row-read, many-lines, bad-line, next-line, text-lines}
+use Rattle.text.proofs.Steps.{fields-over, bad-name, next-name, bad-number, next-number, late-deadline, long-times, name-taken, row-checked}
+use Rattle.text.proofs.Steps.{after-waiting, field-count, bad-field, row-read, many-lines, bad-line, next-line, text-lines}
 use Rattle.promises.specs.Places.{counted, Number, Spells, Wrong, due4, due5, due6, due7, due8, due9, due10, due11, RefusedAt, Places}
 
 -- ---- every refusal has its reason
