@@ -86,7 +86,8 @@ completed v m n = getD (fullRun v m .rows) (n - 1) noSlot .first
 
 -- ---- 1: a bad text or table is refused by its number, which is 0 for all others; it gives an empty table or no figures, and no lent byte changes
 
--- a text: accepted, at line 0, field 0, or refused by 1 to 11, from 4 on at a line, with an empty table. 1, 2 and 3 are given exactly when they are due
+-- a text: accepted, at line 0, field 0, or refused by 1 to 11, from 4 on at a line, with an empty table. 1, 2 and 3 are given exactly when they are due;
+-- specs/Places says it of 4 to 11
 abbrev pub Texts : Type 0
 Texts = (s : List ℕ)
     → (textNumber s ≡ 0 → (wellFormed (reading s .table) ≡ true) × (lineOfOutcome (reading s .outcome) ≡ 0) × (fieldOfOutcome (reading s .outcome) ≡ 0))
