@@ -27,7 +27,15 @@ pub record Halfway (rows : ℕ → Row) (k t i total : ℕ) (until : List ℕ) :
 module _ (rows : ℕ → Row) (k t : ℕ) where
   pub halfway-start : (sum : ℕ) (until : List ℕ) → Counted rows k t sum until → Halfway rows k t 0 sum until
   halfway-start sum until c =
-      record { at = c .at; before = c .before; within = omega arith; sums = omega (arith, c .sums); done = λ j h. absurd (omega arith); left = λ j h l. c .holds j l }
+      record {
+        at = c .at;
+        before = c .before;
+        within = omega arith;
+        sums = omega (arith, c .sums);
+        done = λ j h. absurd (omega arith);
+        left
+            = λ j h l. c .holds j l;
+      }
 
   pub halfway-end : (i total : ℕ) (until : List ℕ) → k ≤ i → Halfway rows k t i total until → CountedAt rows k t total until
   halfway-end i total until h w =
@@ -130,7 +138,8 @@ module _ (period : ℕ) (some : 1 ≤ period) where
       (omega (arith, ap (λ n. n * period) e), omega (arith, ap (λ n. n * work) e, ap (λ n. n * work) z), omega arith, omega arith)
 
 -- the numbers of the rows above keep every count and every sum within 64 bits
-pub demand-safe : (k n t : ℕ) (periods works : List ℕ) → Modest n periods works → k ≤ n → t ≤ safeNumber → demand (rowsFrom periods works) k t ≤ k * (safeNumber * safeNumber)
+pub demand-safe : (k n t : ℕ) (periods works : List ℕ) → Modest n periods works → k ≤ n → t ≤ safeNumber
+    → demand (rowsFrom periods works) k t ≤ k * (safeNumber * safeNumber)
 demand-safe zero n t periods works m h s = omega arith
 demand-safe (suc k) n t periods works m h s =
     let l : k < n = omega arith in
@@ -145,7 +154,8 @@ counted-start rows k t some few =
       at = 0;
       before = omega arith;
       sums = none k (λ i h. some i h);
-      holds = λ i h. getD-replicate {A = ℕ} mostRows i 0 0 (omega arith) ∙ (let z : 0 ≡ arrivals (rows i) 0 * rows i .period = omega (arith, ap (λ n. n * rows i .period) (arrivals-zero (rows i) (some i h))) in z);
+      holds = λ i h. getD-replicate {A = ℕ} mostRows i 0 0 (omega arith)
+          ∙ (let z : 0 ≡ arrivals (rows i) 0 * rows i .period = omega (arith, ap (λ n. n * rows i .period) (arrivals-zero (rows i) (some i h))) in z);
     }
   where
     none : (m : ℕ) → ((i : ℕ) → i < m → 1 ≤ rows i .period) → 0 ≡ demand rows m 0

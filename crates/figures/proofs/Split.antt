@@ -32,7 +32,8 @@ demand-same rows others (suc k) p w t =
 pub right-same : (rows : List RowValue) (k : ℕ) (periods works : List ℕ) → Taken rows k periods works → (c : ℕ)
     → right (rowsFrom periods works) k c ≡ right (rowsOf rows) k c
 right-same rows k periods works t c =
-    λ i u. c + demand-same (rowsFrom periods works) (rowsOf rows) k (t .period) (λ j h. (let z : getD works j 0 + 0 ≡ getD works j 0 = omega arith in z) ∙ t .work-is j h) u i
+    λ i u. c + demand-same (rowsFrom periods works) (rowsOf rows) k (t .period)
+    (λ j h. (let z : getD works j 0 + 0 ≡ getD works j 0 = omega arith in z) ∙ t .work-is j h) u i
 
 -- a result is at most d, and comes after at most d rounds
 module _ (k : ℕ) (periods works : List ℕ) (m : Modest k periods works) (c d : ℕ) (some-c : 1 ≤ c) (fits : c ≤ d) where

@@ -74,6 +74,7 @@ module _ (f : ℕ → ℕ) (d c : ℕ) where
         low = omega (arith, g .low);
         top = h;
         up = mono t (f t) (g .up);
-        counted = g .counted ∙ ap (λ l. n + length l) s ∙ (let z : n + suc (length (rest (f t) (n + 1))) ≡ n + 1 + length (rest (f t) (n + 1)) = omega arith in z);
+        counted = g .counted ∙ ap (λ l. n + length l) s
+            ∙ (let z : n + suc (length (rest (f t) (n + 1))) ≡ n + 1 + length (rest (f t) (n + 1)) = omega arith in z);
         ends = g .ends ∙ ap (last t) s ∙ any-first m (f t) (stops f d (f t)) t;
       }

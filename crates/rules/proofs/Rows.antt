@@ -20,7 +20,8 @@ use Rattle.ticks.specs.Ticks.{ticks, long}
 use Rattle.rules.specs.Tests.{ended, rightValue, waitsValue, rowsTest}
 use Rattle.table.proofs.Rows.{times-front, used-row, used-end}
 
-pub name-back : (v : RowValue) (n : ℕ) → length (v .name) ≡ longestName → n ≡ length (rowOf v .name) → all isZero (take (longestName - n) (drop n (v .name))) ≡ ended (v .name)
+pub name-back : (v : RowValue) (n : ℕ) → length (v .name) ≡ longestName → n ≡ length (rowOf v .name)
+    → all isZero (take (longestName - n) (drop n (v .name))) ≡ ended (v .name)
 unfolding ended
 name-back v n l e =
     let k : length (drop n (v .name)) ≤ longestName - n = simp length-drop (omega arith) in

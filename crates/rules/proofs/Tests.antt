@@ -20,7 +20,8 @@ use Rattle.table.specs.Value.{noValue, rowOf, tableOf, rowValue, emptyRow, tabl
 use Rattle.ticks.specs.Ticks.{ticks, long}
 use Rattle.rules.specs.Tests.{ended, rightValue, unused, waitsValue, rowsTest}
 use Rattle.table.proofs.Rows.{times-length}
-use Rattle.table.proofs.Rules.{row-name, row-times, name-lacks, times-lack, ticks-long, long-ticks, row-back, values, named-value, value-forth, table-rows, table-size, value-right}
+use Rattle.table.proofs.Rules.{row-name, row-times, name-lacks, times-lack, ticks-long, long-ticks, row-back, values, named-value, value-forth}
+use Rattle.table.proofs.Rules.{table-rows, table-size, value-right}
 
 -- the arrays of a row value have their lengths: true of every value of the type
 abbrev pub Sized : RowValue → Type 0

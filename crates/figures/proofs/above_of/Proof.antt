@@ -42,7 +42,8 @@ store rows i periods works p w s h ep ew =
     two j l (yes b) = getD-set-other works i j w 0 (λ z. omega (arith, z)) ∙ s .work-is j b
     two j l (no b) = let z : j ≡ i = omega arith in rw z (getD-set-same works i w 0 (omega (arith, s .works-size)) ∙ ew)
 
-taken : (rows : List RowValue) (k : ℕ) (periods works : List ℕ) → k ≤ mostRows → ((i : ℕ) → i < k → Kept (getD rows i noValue)) → Stored rows k periods works → Taken rows k periods works
+taken : (rows : List RowValue) (k : ℕ) (periods works : List ℕ) → k ≤ mostRows → ((i : ℕ) → i < k → Kept (getD rows i noValue))
+    → Stored rows k periods works → Taken rows k periods works
 taken rows k periods works few kept s =
     record {
       modest = record {
@@ -64,7 +65,16 @@ abbrev μ-loop : tie.MeasureT-loop
 μ-loop k rows periods₀ works₀ i₀ periods works i = k - i
 
 loop-holds : tie.Need-loop-holds Inv-loop μ-loop
-loop-holds c = (search needs, record { periods-size = refl; works-size = refl; period = λ j h. absurd (omega (arith, h)); work-is = λ j h. absurd (omega (arith, h)) })
+loop-holds c = (
+  search needs,
+  record {
+    periods-size = refl;
+    works-size = refl;
+    period = λ j h. absurd (omega (arith, h));
+    work-is
+        = λ j h. absurd (omega (arith, h));
+  },
+)
 
 mul-row : tie.Need-mul-row Inv-loop μ-loop
 mul-row c = search needs
@@ -97,10 +107,11 @@ loop-less c = search needs
 
 loop-again : tie.Need-loop-again Inv-loop μ-loop
 loop-again c =
+    let s = c .before .before .before .before in
     let l = c .before .before .before .loop in
-    let a = c .before .before .before .before .args in
+    let a = s .args in
     let t = c .before .before .loop-test .taken in
-    (search needs, store (a .t1) (l .i) (l .periods) (l .works) _ _ (l .inv .1) (omega (arith, t, c .before .before .before .before .pre .0)) refl (c .work-of .ensures))
+    (search needs, store (a .t1) (l .i) (l .periods) (l .works) _ _ (l .inv .1) (omega (arith, t, s .pre .0)) refl (c .work-of .ensures))
 
 returns : tie.Need-returns Inv-loop μ-loop
 returns c =

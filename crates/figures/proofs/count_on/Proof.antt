@@ -66,7 +66,8 @@ add-add : tie.Need-add-add
 unfolding moreOf ceiling
 add-add c = omega (arith, few (c .before .before .before), first (c .before .before .before) .3, c .before .before .before .before .pre)
 
-ahead-is : (u a held period work t : ℕ) → u ≡ held + moreOf held period t * period → a ≡ moreOf held period t * work → record { 0 = u; 1 = a } ≡ aheadOf held period work t
+ahead-is : (u a held period work t : ℕ) → u ≡ held + moreOf held period t * period → a ≡ moreOf held period t * work
+    → record { 0 = u; 1 = a } ≡ aheadOf held period work t
 ahead-is u a held period work t p q = λ i. record { 0 = p i; 1 = q i }
 
 returns : tie.Need-returns

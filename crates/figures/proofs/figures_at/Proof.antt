@@ -81,8 +81,13 @@ solve-requires : tie.Need-solve-requires
 solve-requires c κs =
     let s = c .before .before .before in
     let k = s .pre .1 (s .args .k) (omega arith) in
-    let f = sane _ (k .right) in
-    (c .before .before .above-of .ensures .modest, omega (arith, f .own-some, c .own-of .ensures), omega (arith, f .own-fits, c .own-of .ensures), deadline-safe _ k)
+    let f = sane _ (k .right) in (
+      c .before .before .above-of .ensures .modest,
+      omega (arith, f .own-some, c .own-of .ensures),
+      omega
+          (arith, f .own-fits, c .own-of .ensures),
+      deadline-safe _ k,
+    )
 
 waits-requires : tie.Need-waits-requires
 waits-requires c κs = search needs
@@ -95,16 +100,32 @@ returns c =
     let s = c .before .before .before .before .before .before .before in
     let a = s .args in
     let k = s .pre .1 (a .k) (omega arith) in
-    let w = whole-worked (a .t1) (a .k) _ _ (c .before .before .before .before .before .before .above-of .ensures) (c .before .before .before .solve .result) (c .before .before .before .before .own-of .result) (c .before .before .before .before .own-of .ensures) (c .before .before .before .solve .ensures) in
+    let w = whole-worked (a .t1) (a .k) _ _ (c .before .before .before .before .before .before .above-of .ensures)
+    (c .before .before .before .solve .result) (c .before .before .before .before .own-of .result) (c .before .before .before .before .own-of .ensures)
+    (c .before .before .before .solve .ensures) in
     let n = sym (c .before .before .waits .ensures) ∙ not-true _ (c .before .if1 .taken) in
     let v = c .of-one-stretch .ensures ∙ ap (λ f. single (numberIn f)) (w .0) ∙ ap single (figure-back (whole (rowsOf (a .t1)) (a .k))) in
-    let e : _≡_ {A = RowFigures} (record { verdict = c .of-one-stretch .result; whole = c .before .before .before .solve .result .figure; split = figureOf none; rounds = c .before .before .before .solve .result .rounds })
-    (record { verdict = single (whole (rowsOf (a .t1)) (a .k)); whole = figureOf (whole (rowsOf (a .t1)) (a .k)); split = figureOf none; rounds = wholeRounds (rowsOf (a .t1)) (a .k) })
+    let e : _≡_ {A = RowFigures} (record {
+      verdict = c .of-one-stretch .result;
+      whole = c .before .before .before .solve .result .figure;
+      split
+          = figureOf none;
+      rounds = c .before .before .before .solve .result .rounds;
+    })
+    (record {
+      verdict = single (whole (rowsOf (a .t1)) (a .k));
+      whole = figureOf (whole (rowsOf (a .t1)) (a .k));
+      split = figureOf none;
+      rounds
+          = wholeRounds (rowsOf (a .t1)) (a .k);
+    })
     = λ i. record { verdict = v i; whole = w .0 i; split = figureOf none; rounds = w .1 i } in
     e ∙ sym (one-figures (rowsOf (a .t1)) (a .k) (k .right) n)
 
 split-of-requires : tie.Need-split-of-requires
-split-of-requires c κs = (c .before .before .before .before .before .before .pre .0, c .before .before .before .before .before .above-of .ensures, c .before .before .before .before .before .before .pre .1 (c .before .before .before .before .before .before .args .k) (omega arith))
+split-of-requires c κs =
+    let s = c .before .before .before .before .before .before in
+    (s .pre .0, c .before .before .before .before .before .above-of .ensures, s .pre .1 (s .args .k) (omega arith))
 
 at-most-requires : tie.Need-at-most-requires
 at-most-requires c κs = search needs
@@ -119,8 +140,17 @@ add-t18 c =
     let k = s .pre .1 (a .k) (omega arith) in
     let f = sane _ (k .right) in
     let o = c .before .before .before .before .before .before .before .before .own-of .ensures in
-    let r = worked-few (a .k) _ _ (c .before .before .before .before .before .before .before .before .before .before .above-of .ensures .modest) (c .before .before .before .before .before .before .before .before .own-of .result) (getD (a .t1) (a .k) noValue .deadline .0) (omega (arith, f .own-some, o)) (omega (arith, f .own-fits, o)) in
-    omega (arith, ap (λ (x : Worked). x .rounds) (c .before .before .before .before .before .before .before .solve .ensures), r, deadline-safe _ k, c .before .before .before .before .split-of .ensures .1)
+    let r = worked-few (a .k) _ _ (c .before .before .before .before .before .before .before .before .before .before .above-of .ensures .modest)
+    (c .before .before .before .before .before .before .before .before .own-of .result) (getD (a .t1) (a .k) noValue .deadline .0)
+    (omega (arith, f .own-some, o)) (omega (arith, f .own-fits, o)) in
+    omega (
+      arith,
+      ap (λ (x : Worked). x .rounds)
+          (c .before .before .before .before .before .before .before .solve .ensures),
+      r,
+      deadline-safe _ k,
+      c .before .before .before .before .split-of .ensures .1,
+    )
 
 returns-2 : tie.Need-returns-2
 returns-2 c =
@@ -128,15 +158,28 @@ returns-2 c =
     let a = s .args in
     let rows = rowsOf (a .t1) in
     let k = s .pre .1 (a .k) (omega arith) in
-    let w = whole-worked (a .t1) (a .k) _ _ (c .before .before .before .before .before .before .before .before .before .before .above-of .ensures) (c .before .before .before .before .before .before .before .solve .result) (c .before .before .before .before .before .before .before .before .own-of .result) (c .before .before .before .before .before .before .before .before .own-of .ensures) (c .before .before .before .before .before .before .before .solve .ensures) in
+    let w = whole-worked (a .t1) (a .k) _ _ (c .before .before .before .before .before .before .before .before .before .before .above-of .ensures)
+    (c .before .before .before .before .before .before .before .solve .result)
+    (c .before .before .before .before .before .before .before .before .own-of .result)
+    (c .before .before .before .before .before .before .before .before .own-of .ensures)
+    (c .before .before .before .before .before .before .before .solve .ensures) in
     let p = c .before .before .before .before .split-of .ensures .0 in
     let n = sym (c .before .before .before .before .before .before .waits .ensures) ∙ not-false _ (c .before .before .before .before .before .if1 .left) in
     let q = c .before .before .before .at-most .ensures ∙ ap (λ (x : Worked). figureOf (atMost (rows (a .k) .deadline) (numberIn (x .figure)))) p
     ∙ ap (λ o. figureOf (atMost (rows (a .k) .deadline) o)) (figure-back (splitFrom rows (a .k) (parts (rows (a .k) .times)))) in
-    let v = c .before .before .of-waiting .ensures ∙ ap (λ f. lesser (numberIn f) (numberIn (c .before .before .before .at-most .result))) (w .0) ∙ ap (λ f. lesser (numberIn (figureOf (whole rows (a .k)))) (numberIn f)) q
-    ∙ ap (λ o. lesser o (numberIn (figureOf (split rows (a .k))))) (figure-back (whole rows (a .k))) ∙ ap (lesser (whole rows (a .k))) (figure-back (split rows (a .k))) in
+    let v = c .before .before .of-waiting .ensures ∙ ap (λ f. lesser (numberIn f) (numberIn (c .before .before .before .at-most .result))) (w .0)
+    ∙ ap (λ f. lesser (numberIn (figureOf (whole rows (a .k)))) (numberIn f)) q
+    ∙ ap (λ o. lesser o (numberIn (figureOf (split rows (a .k))))) (figure-back (whole rows (a .k)))
+    ∙ ap (lesser (whole rows (a .k))) (figure-back (split rows (a .k))) in
     let m = ap (λ x. x + c .before .before .before .before .split-of .result .rounds) (w .1) ∙ ap (λ (x : Worked). wholeRounds rows (a .k) + x .rounds) p in
-    let e : _≡_ {A = RowFigures} (record { verdict = c .before .before .of-waiting .result; whole = c .before .before .before .before .before .before .before .solve .result .figure; split = c .before .before .before .at-most .result; rounds = c .before .before .before .before .before .before .before .solve .result .rounds + c .before .before .before .before .split-of .result .rounds })
+    let e : _≡_ {A = RowFigures} (record {
+      verdict = c .before .before .of-waiting .result;
+      whole
+          = c .before .before .before .before .before .before .before .solve .result .figure;
+      split = c .before .before .before .at-most .result;
+      rounds
+          = c .before .before .before .before .before .before .before .solve .result .rounds + c .before .before .before .before .split-of .result .rounds;
+    })
     (record {
       verdict = lesser (whole rows (a .k)) (split rows (a .k));
       whole = figureOf (whole rows (a .k));

@@ -16,7 +16,8 @@ use Rattle.figures.proofs.own_of.Statement.{statement}
 use Rattle.figures.proofs.own_of.Tie as tie
 
 abbrev Inv-loop : tie.InvT-loop
-Inv-loop times sum₀ i₀ sum i = (i ≤ mostTimes) × (length (map ticks times) ≡ mostTimes) × (Sum (map ticks times) ≤ safeNumber) × (sum + Sum (drop i (map ticks times)) ≡ Sum (map ticks times))
+Inv-loop times sum₀ i₀ sum i = (i ≤ mostTimes) × (length (map ticks times) ≡ mostTimes) × (Sum (map ticks times) ≤ safeNumber)
+    × (sum + Sum (drop i (map ticks times)) ≡ Sum (map ticks times))
 
 abbrev μ-loop : tie.MeasureT-loop
 μ-loop times sum₀ i₀ sum i = mostTimes - i
@@ -48,15 +49,22 @@ loop-less c = search needs
 
 loop-again : tie.Need-loop-again Inv-loop μ-loop
 loop-again c =
+    let s = c .before .before .before .before .before in
     let l = c .before .before .before .loop in
-    let ts = c .before .before .before .before .before .args .row .times in
-    (search needs, l .inv .1, l .inv .2, omega (arith, l .inv .3, time-at ts (l .i), sum-at (map ticks ts) (l .i) (omega (arith, l .inv .1, c .before .before .loop-test .taken))))
+    let ts = s .args .row .times in (
+      search needs,
+      l .inv .1,
+      l .inv .2,
+      omega
+          (arith, l .inv .3, time-at ts (l .i), sum-at (map ticks ts) (l .i) (omega (arith, l .inv .1, c .before .before .loop-test .taken))),
+    )
 
 returns : tie.Need-returns Inv-loop μ-loop
 returns c =
+    let s = c .before .before .before in
     let l = c .before .loop in
-    let ts = c .before .before .before .args .row .times in
-    omega (arith, l .inv .3, sum-end (map ticks ts) (l .i) (omega (arith, l .inv .1, c .loop-test .left)), own-is (c .before .before .before .args .row) (c .before .before .before .pre))
+    let ts = s .args .row .times in
+    omega (arith, l .inv .3, sum-end (map ticks ts) (l .i) (omega (arith, l .inv .1, c .loop-test .left)), own-is (s .args .row) (s .pre))
 
 pub own-of-spec : {M : Type 1} → statement M
 own-of-spec =

@@ -45,18 +45,23 @@ returns-2 : tie.Need-returns-2
 returns-2 c = sym (none-below _ _ (sym (c .before .before .well-formed .ensures) ∙ not-false _ (c .before .if1 .left)) (c .if2 .taken))
 
 returns-3 : tie.Need-returns-3
-returns-3 c = sym (none-beyond _ _ (sym (c .before .before .before .before .well-formed .ensures) ∙ not-false _ (c .before .before .before .if1 .left)) (c .if3 .taken))
+returns-3 c = sym (none-beyond _ _ (sym (c .before .before .before .before .well-formed .ensures) ∙ not-false _ (c .before .before .before .if1 .left))
+    (c .if3 .taken))
 
 figures-at-requires : tie.Need-figures-at-requires
 figures-at-requires c κs =
     let s = c .before .before .before .before .before .before in
-    let ok = sym (c .before .before .before .before .before .well-formed .ensures) ∙ not-false _ (c .before .before .before .before .if1 .left) in
-    (omega (arith, len-most (s .args .t) ok, c .before .if3 .left, c .before .before .before .if2 .left), λ i h. row-kept (s .args .t) ok i (omega (arith, h, c .before .if3 .left, c .before .before .before .if2 .left)))
+    let ok = sym (c .before .before .before .before .before .well-formed .ensures) ∙ not-false _ (c .before .before .before .before .if1 .left) in (
+      omega (arith, len-most (s .args .t) ok, c .before .if3 .left, c .before .before .before .if2 .left),
+      λ i h. row-kept (s .args .t) ok i
+          (omega (arith, h, c .before .if3 .left, c .before .before .before .if2 .left)),
+    )
 
 returns-4 : tie.Need-returns-4
 returns-4 c =
     let s = c .before .before .before .before .before .before .before in
-    let ok = sym (c .before .before .before .before .before .before .well-formed .ensures) ∙ not-false _ (c .before .before .before .before .before .if1 .left) in
+    let ok = sym (c .before .before .before .before .before .before .well-formed .ensures)
+    ∙ not-false _ (c .before .before .before .before .before .if1 .left) in
     ap RowIs (c .figures-at .ensures ∙ ap (λ (rows : ℕ → Row). figuresOf rows (s .args .number - 1)) (rows-same (s .args .t) ok))
     ∙ sym (row-there (s .args .t) (s .args .number) ok (c .before .before .before .before .if2 .left) (c .before .before .if3 .left))
 

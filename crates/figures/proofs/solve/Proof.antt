@@ -17,15 +17,18 @@ use Rattle.figures.proofs.solve.Statement.{statement}
 use Rattle.figures.proofs.solve.Tie as tie
 
 -- the right side grows with the window
-right-mono : (k c : ℕ) (periods works : List ℕ) → Modest k periods works → (s t : ℕ) → s ≤ t → right (rowsFrom periods works) k c s ≤ right (rowsFrom periods works) k c t
+right-mono : (k c : ℕ) (periods works : List ℕ) → Modest k periods works → (s t : ℕ) → s ≤ t
+    → right (rowsFrom periods works) k c s ≤ right (rowsFrom periods works) k c t
 right-mono k c periods works m s t le = omega (arith, demand-mono (rowsFrom periods works) k (m .period-some) s t le)
 
 -- it stays within 64 bits
-right-safe : (k c t : ℕ) (periods works : List ℕ) → Modest k periods works → t ≤ safeNumber → demand (rowsFrom periods works) k t ≤ mostRows * (safeNumber * safeNumber)
+right-safe : (k c t : ℕ) (periods works : List ℕ) → Modest k periods works → t ≤ safeNumber
+    → demand (rowsFrom periods works) k t ≤ mostRows * (safeNumber * safeNumber)
 right-safe k c t periods works m s = omega (arith, demand-safe k k t periods works m (omega arith) s, mul-le-mul-right (safeNumber * safeNumber) (m .few))
 
 abbrev Inv-loop : tie.InvT-loop
-Inv-loop k c d periods works until₀ sum₀ t₀ rounds₀ until sum t rounds = (length until ≡ mostRows) × Counted (rowsFrom periods works) k t sum until × Going (right (rowsFrom periods works) k c) d c t rounds
+Inv-loop k c d periods works until₀ sum₀ t₀ rounds₀ until sum t rounds = (length until ≡ mostRows) × Counted (rowsFrom periods works) k t sum until
+    × Going (right (rowsFrom periods works) k c) d c t rounds
 
 abbrev μ-loop : tie.MeasureT-loop
 μ-loop k c d periods works until₀ sum₀ t₀ rounds₀ until sum t rounds = d - t
@@ -86,7 +89,8 @@ returns-2 c =
     let l = c .before .before .before .before .before .before .before .loop in
     let a = c .before .before .before .before .before .before .before .before .before .before .args in
     let f = right (rowsFrom (a .above .periods) (a .above .works)) (a .k) (a .c) in
-    let s : f (l .t) ≡ a .c + c .before .before .before .demand-at .result = ap (λ n. a .c + n) (sym (c .before .before .before .demand-at .ensures .0 .sums)) in
+    let s : f (l .t) ≡ a .c + c .before .before .before .demand-at .result
+    = ap (λ n. a .c + n) (sym (c .before .before .before .demand-at .ensures .0 .sums)) in
     let g = going-above f (a .d) (a .c) (l .t) (l .rounds) (l .inv .2) (λ e. c .before .if1 .left (sym s ∙ e)) (rw s (c .if2 .taken)) in
     λ i. record { figure = figureOf (sym (g .0) i); rounds = sym (g .1) i }
 
@@ -103,7 +107,8 @@ loop-again c =
     let rows = rowsFrom (a .above .periods) (a .above .works) in
     let f = right rows (a .k) (a .c) in
     let s : f (l .t) ≡ a .c + p .result = ap (λ n. a .c + n) (sym (p .ensures .0 .sums)) in
-    let g = going-on f (a .d) (a .c) (right-mono (a .k) (a .c) (a .above .periods) (a .above .works) (c .before .before .before .before .before .before .before .before .before .before .pre .0)) (l .t) (l .rounds) (l .inv .2)
+    let g = going-on f (a .d) (a .c) (right-mono (a .k) (a .c) (a .above .periods) (a .above .works)
+    (c .before .before .before .before .before .before .before .before .before .before .pre .0)) (l .t) (l .rounds) (l .inv .2)
     (λ e. c .before .if1 .left (sym s ∙ e)) (rw s (c .if2 .left)) in (
       p .ensures .1,
       record { at = l .t; before = omega (arith, l .inv .2 .up, p .ensures .0 .sums); sums = p .ensures .0 .sums; holds = p .ensures .0 .holds },

@@ -21,7 +21,8 @@ use Rattle.figures.specs.Work.{safeNumber, workedOf, splitWorked, rowsFr
 use Rattle.figures.specs.declared.Above.{Above}
 use Rattle.figures.specs.declared.Worked.{Worked}
 use Rattle.figures.proofs.Values.{deadline-safe, time-used}
-use Rattle.figures.proofs.Split.{right-same, worked-fits, worked-few, figure-back, splitBy, roundsBy, split-by, rounds-by, Parted, parted-start, parted-none, parted-some, parted-end, before-used, time-sum}
+use Rattle.figures.proofs.Split.{right-same, worked-fits, worked-few, figure-back, splitBy, roundsBy, split-by, rounds-by, Parted}
+use Rattle.figures.proofs.Split.{parted-start, parted-none, parted-some, parted-end, before-used, time-sum}
 use Rattle.figures.proofs.split_of.Statement.{statement}
 use Rattle.figures.proofs.split_of.Tie as tie
 
@@ -103,11 +104,13 @@ module _ (above : Above) (rows : List RowValue) (k : ℕ) (t : Taken rows k (abo
       let same : (c : ℕ) → right (rowsOf rows) k c ≡ right (rowsFrom (above .periods) (above .works)) k c
       = λ c. sym (right-same rows k (above .periods) (above .works) t c) in
       let a = split-by (rowsOf rows) k (res above k d) (λ c. ap (λ g. result g d c) (same c)) (parts ts) in
-      let b = rounds-by (rowsOf rows) k (res above k d) (num above k d) (λ c. ap (λ g. result g d c) (same c)) (λ c. ap (λ g. rounds g d c) (same c)) (parts ts) in
+      let b = rounds-by (rowsOf rows) k (res above k d) (num above k d) (λ c. ap (λ g. result g d c) (same c)) (λ c. ap (λ g. rounds g d c) (same c))
+      (parts ts) in
       λ i. record { figure = figureOf (sym (a ∙ e) i); rounds = sym (b ∙ f) i }
 
 abbrev Inv-loop : tie.InvT-loop
-Inv-loop above k times count d sum₀ rounds₀ j₀ sum rounds j = (j ≤ count + 1) × (sum ≤ j * (2 * safeNumber)) × (rounds ≤ j * safeNumber) × Parted (res above k d) (num above k d) (upTo 0 (map ticks times)) j sum rounds
+Inv-loop above k times count d sum₀ rounds₀ j₀ sum rounds j = (j ≤ count + 1) × (sum ≤ j * (2 * safeNumber)) × (rounds ≤ j * safeNumber)
+    × Parted (res above k d) (num above k d) (upTo 0 (map ticks times)) j sum rounds
 
 abbrev μ-loop : tie.MeasureT-loop
 μ-loop above k times count d sum₀ rounds₀ j₀ sum rounds j = count + 1 - j
@@ -139,7 +142,8 @@ array-copy-out-stretch c =
 solve-requires : tie.Need-solve-requires Inv-loop μ-loop
 solve-requires c κs =
     let s = c .before .before .before .before .before .before in
-    let h : c .before .before .loop .j < length (rowOf (getD (s .args .t2) (s .args .k) noValue) .times) = omega (arith, c .before .loop-test .taken, c .before .before .before .count .ensures) in
+    let h : c .before .before .loop .j < length (rowOf (getD (s .args .t2) (s .args .k) noValue) .times)
+    = omega (arith, c .before .loop-test .taken, c .before .before .before .count .ensures) in
     let f = stretch-fits (s .args .above) (s .args .t2) (s .args .k) (s .pre .1) (s .pre .2) (c .before .before .loop .j) h in
     (s .pre .1 .modest, f .0, f .1, fit _ (s .pre .2) .safe)
 
@@ -148,7 +152,8 @@ add-rounds c =
     let s = c .before .before .before .before .before .before .before .before in
     let a = s .args in
     let l = c .before .before .before .before .loop in
-    let h : l .j < length (rowOf (getD (a .t2) (a .k) noValue) .times) = omega (arith, c .before .before .before .loop-test .taken, c .before .before .before .before .before .count .ensures) in
+    let h : l .j < length (rowOf (getD (a .t2) (a .k) noValue) .times)
+    = omega (arith, c .before .before .before .loop-test .taken, c .before .before .before .before .before .count .ensures) in
     let w = solved (a .above) (a .t2) (a .k) (s .pre .1) (s .pre .2) (c .before .solve .result) (l .j) h (c .before .solve .ensures) in
     omega (arith, w .1, few-rounds (a .above) (a .t2) (a .k) (s .pre .1) (s .pre .2) (l .j) h, l .inv .2, fit _ (s .pre .2) .few)
 
@@ -160,10 +165,14 @@ returns c =
     let s = c .before .before .before .before .before .before .before .before .before .before in
     let a = s .args in
     let l = c .before .before .before .before .before .before .loop in
-    let h : l .j < length (rowOf (getD (a .t2) (a .k) noValue) .times) = omega (arith, c .before .before .before .before .before .loop-test .taken, c .before .before .before .before .before .before .before .count .ensures) in
-    let w = solved (a .above) (a .t2) (a .k) (s .pre .1) (s .pre .2) (c .before .before .before .solve .result) (l .j) h (c .before .before .before .solve .ensures) in
-    let e = parted-none _ _ (rowOf (getD (a .t2) (a .k) noValue) .times) (l .j) (l .sum) (l .rounds) (l .inv .3) h (sym (w .0) ∙ ap numberIn (c .enum-told .given .1)) in (
-      finish (a .above) (a .t2) (a .k) (s .pre .1) (s .pre .2) none (l .rounds + c .before .before .before .solve .result .rounds) (e .0) (e .1 ∙ ap (λ n. l .rounds + n) (sym (w .1))),
+    let h : l .j < length (rowOf (getD (a .t2) (a .k) noValue) .times)
+    = omega (arith, c .before .before .before .before .before .loop-test .taken, c .before .before .before .before .before .before .before .count .ensures) in
+    let w = solved (a .above) (a .t2) (a .k) (s .pre .1) (s .pre .2) (c .before .before .before .solve .result) (l .j) h
+    (c .before .before .before .solve .ensures) in
+    let e = parted-none _ _ (rowOf (getD (a .t2) (a .k) noValue) .times) (l .j) (l .sum) (l .rounds) (l .inv .3) h
+    (sym (w .0) ∙ ap numberIn (c .enum-told .given .1)) in (
+      finish (a .above) (a .t2) (a .k) (s .pre .1) (s .pre .2) none (l .rounds + c .before .before .before .solve .result .rounds) (e .0)
+          (e .1 ∙ ap (λ n. l .rounds + n) (sym (w .1))),
       omega (arith, w .1, few-rounds (a .above) (a .t2) (a .k) (s .pre .1) (s .pre .2) (l .j) h, l .inv .2, fit _ (s .pre .2) .few),
     )
 
@@ -172,7 +181,8 @@ enum-known-figure c = search needs
 
 suspension-requires : tie.Need-suspension-requires Inv-loop μ-loop
 suspension-requires c κs =
-    let f = fit _ (c .before .before .before .before .before .before .before .before .before .before .before .pre .2) .few in
+    let s = c .before .before .before .before .before .before .before .before .before .before .before in
+    let f = fit _ (s .pre .2) .few in
     omega (arith, f, c .before .before .before .before .before .before .loop-test .taken, c .before .before .before .before .before .before .before .before .count .ensures)
 
 add-sum : tie.Need-add-sum Inv-loop μ-loop
@@ -180,9 +190,12 @@ add-sum c =
     let s = c .before .before .before .before .before .before .before .before .before .before .before .before .before in
     let a = s .args in
     let l = c .before .before .before .before .before .before .before .before .before .loop in
-    let h : l .j < length (rowOf (getD (a .t2) (a .k) noValue) .times) = omega (arith, c .before .before .before .before .before .before .before .before .loop-test .taken, c .before .before .before .before .before .before .before .before .before .before .count .ensures) in
-    let w = solved (a .above) (a .t2) (a .k) (s .pre .1) (s .pre .2) (c .before .before .before .before .before .before .solve .result) (l .j) h (c .before .before .before .before .before .before .solve .ensures) in
-    let r = small-result (a .above) (a .t2) (a .k) (s .pre .1) (s .pre .2) (l .j) (c .before .before .before .figure .given .0 .0 .0) h (sym (w .0) ∙ ap numberIn (c .before .before .before .figure .given .1)) in
+    let h : l .j < length (rowOf (getD (a .t2) (a .k) noValue) .times)
+    = omega (arith, c .before .before .before .before .before .before .before .before .loop-test .taken, c .before .before .before .before .before .before .before .before .before .before .count .ensures) in
+    let w = solved (a .above) (a .t2) (a .k) (s .pre .1) (s .pre .2) (c .before .before .before .before .before .before .solve .result) (l .j) h
+    (c .before .before .before .before .before .before .solve .ensures) in
+    let r = small-result (a .above) (a .t2) (a .k) (s .pre .1) (s .pre .2) (l .j) (c .before .before .before .figure .given .0 .0 .0) h
+    (sym (w .0) ∙ ap numberIn (c .before .before .before .figure .given .1)) in
     omega (arith, r, c .before .suspension .ensures, small-wait (a .above) (a .t2) (a .k) (s .pre .1) (s .pre .2) (l .j) h)
 
 add-sum-2 : tie.Need-add-sum-2 Inv-loop μ-loop
@@ -190,14 +203,18 @@ add-sum-2 c =
     let s = c .before .before .before .before .before .before .before .before .before .before .before .before .before in
     let a = s .args in
     let l = c .before .before .before .before .before .before .before .before .before .loop in
-    let h : l .j < length (rowOf (getD (a .t2) (a .k) noValue) .times) = omega (arith, c .before .before .before .before .before .before .before .before .loop-test .taken, c .before .before .before .before .before .before .before .before .before .before .count .ensures) in
-    let w = solved (a .above) (a .t2) (a .k) (s .pre .1) (s .pre .2) (c .before .before .before .before .before .before .solve .result) (l .j) h (c .before .before .before .before .before .before .solve .ensures) in
-    let r = small-result (a .above) (a .t2) (a .k) (s .pre .1) (s .pre .2) (l .j) (c .before .before .before .figure .given .0 .0 .0) h (sym (w .0) ∙ ap numberIn (c .before .before .before .figure .given .1)) in
+    let h : l .j < length (rowOf (getD (a .t2) (a .k) noValue) .times)
+    = omega (arith, c .before .before .before .before .before .before .before .before .loop-test .taken, c .before .before .before .before .before .before .before .before .before .before .count .ensures) in
+    let w = solved (a .above) (a .t2) (a .k) (s .pre .1) (s .pre .2) (c .before .before .before .before .before .before .solve .result) (l .j) h
+    (c .before .before .before .before .before .before .solve .ensures) in
+    let r = small-result (a .above) (a .t2) (a .k) (s .pre .1) (s .pre .2) (l .j) (c .before .before .before .figure .given .0 .0 .0) h
+    (sym (w .0) ∙ ap numberIn (c .before .before .before .figure .given .1)) in
     omega (arith, r, c .before .suspension .ensures, small-wait (a .above) (a .t2) (a .k) (s .pre .1) (s .pre .2) (l .j) h, l .inv .1, fit _ (s .pre .2) .few)
 
 add-j : tie.Need-add-j Inv-loop μ-loop
 add-j c =
-    let f = fit _ (c .before .before .before .before .before .before .before .before .before .before .before .before .before .pre .2) .few in
+    let s = c .before .before .before .before .before .before .before .before .before .before .before .before .before in
+    let f = fit _ (s .pre .2) .few in
     omega (arith, f, c .before .before .before .before .before .before .before .before .loop-test .taken, c .before .before .before .before .before .before .before .before .before .before .count .ensures)
 
 loop-less : tie.Need-loop-less Inv-loop μ-loop
@@ -208,12 +225,16 @@ loop-again c =
     let s = c .before .before .before .before .before .before .before .before .before .before .before .before .before in
     let a = s .args in
     let l = c .before .before .before .before .before .before .before .before .before .loop in
-    let h : l .j < length (rowOf (getD (a .t2) (a .k) noValue) .times) = omega (arith, c .before .before .before .before .before .before .before .before .loop-test .taken, c .before .before .before .before .before .before .before .before .before .before .count .ensures) in
-    let w = solved (a .above) (a .t2) (a .k) (s .pre .1) (s .pre .2) (c .before .before .before .before .before .before .solve .result) (l .j) h (c .before .before .before .before .before .before .solve .ensures) in
-    let x : res (a .above) (a .k) _ (getD (rowOf (getD (a .t2) (a .k) noValue) .times) (l .j) 0) ≡ some (c .before .before .before .figure .given .0 .0 .0) = sym (w .0) ∙ ap numberIn (c .before .before .before .figure .given .1) in
+    let h : l .j < length (rowOf (getD (a .t2) (a .k) noValue) .times)
+    = omega (arith, c .before .before .before .before .before .before .before .before .loop-test .taken, c .before .before .before .before .before .before .before .before .before .before .count .ensures) in
+    let w = solved (a .above) (a .t2) (a .k) (s .pre .1) (s .pre .2) (c .before .before .before .before .before .before .solve .result) (l .j) h
+    (c .before .before .before .before .before .before .solve .ensures) in
+    let x : res (a .above) (a .k) _ (getD (rowOf (getD (a .t2) (a .k) noValue) .times) (l .j) 0) ≡ some (c .before .before .before .figure .given .0 .0 .0)
+    = sym (w .0) ∙ ap numberIn (c .before .before .before .figure .given .1) in
     let r = small-result (a .above) (a .t2) (a .k) (s .pre .1) (s .pre .2) (l .j) (c .before .before .before .figure .given .0 .0 .0) h x in
     let q = c .before .suspension .ensures ∙ before-used (getD (a .t2) (a .k) noValue) (l .j) h in
-    let p = parted-some _ _ (rowOf (getD (a .t2) (a .k) noValue) .times) (l .j) (l .sum) (l .rounds) (l .inv .3) h (c .before .before .before .figure .given .0 .0 .0) x in (
+    let p = parted-some _ _ (rowOf (getD (a .t2) (a .k) noValue) .times) (l .j) (l .sum) (l .rounds) (l .inv .3) h
+    (c .before .before .before .figure .given .0 .0 .0) x in (
       omega (arith, c .before .before .before .before .before .before .before .before .loop-test .taken),
       omega (arith, r, c .before .suspension .ensures, small-wait (a .above) (a .t2) (a .k) (s .pre .1) (s .pre .2) (l .j) h, l .inv .1),
       omega (arith, w .1, few-rounds (a .above) (a .t2) (a .k) (s .pre .1) (s .pre .2) (l .j) h, l .inv .2),

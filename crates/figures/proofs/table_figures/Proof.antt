@@ -38,16 +38,22 @@ table-done v n ok e =
     let t = tableOf v in
     let k : n ≡ length t = e ∙ len-is v ok in
     let a : verdictOf (rowsOf (v .rows)) n ≡ tableVerdict t = ap (λ (rows : ℕ → Row). verdictOf rows n) (rows-same v ok) ∙ verdict-whole t n k in
-    let b : filled (slotAt (rowsOf (v .rows))) (slotOf (Refused NoSuchRow)) mostRows n ≡ filled (slotAt (rowAt t)) (slotOf (Refused NoSuchRow)) mostRows (length t)
+    let b : filled (slotAt (rowsOf (v .rows))) (slotOf (Refused NoSuchRow)) mostRows n ≡ filled (slotAt (rowAt t)) (slotOf (Refused NoSuchRow)) mostRows
+    (length t)
     = ap (λ (rows : ℕ → Row). filled (slotAt rows) (slotOf (Refused NoSuchRow)) mostRows n) (rows-same v ok)
     ∙ ap (filled (slotAt (rowAt t)) (slotOf (Refused NoSuchRow)) mostRows) k in
-    let p : _≡_ {A = TableFigures} (record { verdict = verdictOf (rowsOf (v .rows)) n; rows = filled (slotAt (rowsOf (v .rows))) (slotOf (Refused NoSuchRow)) mostRows n })
+    let p : _≡_ {A = TableFigures} (record {
+      verdict = verdictOf (rowsOf (v .rows)) n;
+      rows
+          = filled (slotAt (rowsOf (v .rows))) (slotOf (Refused NoSuchRow)) mostRows n;
+    })
     (record { verdict = tableVerdict t; rows = filled (slotAt (rowAt t)) (slotOf (Refused NoSuchRow)) mostRows (length t) })
     = λ i. record { verdict = a i; rows = b i } in
     p ∙ sym (if-true _ _ ok)
 
 abbrev Inv-loop : tie.InvT-loop
-Inv-loop rows len slots₀ verdict₀ k₀ slots verdict k = (k ≤ len) × (verdict ≡ verdictOf (rowsOf rows) k) × (slots ≡ filled (slotAt (rowsOf rows)) (slotOf (Refused NoSuchRow)) mostRows k)
+Inv-loop rows len slots₀ verdict₀ k₀ slots verdict k = (k ≤ len) × (verdict ≡ verdictOf (rowsOf rows) k)
+    × (slots ≡ filled (slotAt (rowsOf rows)) (slotOf (Refused NoSuchRow)) mostRows k)
 
 abbrev μ-loop : tie.MeasureT-loop
 μ-loop rows len slots₀ verdict₀ k₀ slots verdict k = len - k
@@ -101,7 +107,8 @@ loop-again c =
     let rows = rowsOf (s .args .t .rows) in
     let f = c .before .figures-at .ensures in
     let v : c .joined .result ≡ verdictOf rows (l .k + 1)
-    = c .joined .ensures ∙ ap (λ x. joinedOf x (c .before .figures-at .result .verdict)) (l .inv .1) ∙ ap (λ (x : RowFigures). joinedOf (verdictOf rows (l .k)) (x .verdict)) f ∙ verdict-next rows (l .k) in (
+    = c .joined .ensures ∙ ap (λ x. joinedOf x (c .before .figures-at .result .verdict)) (l .inv .1)
+    ∙ ap (λ (x : RowFigures). joinedOf (verdictOf rows (l .k)) (x .verdict)) f ∙ verdict-next rows (l .k) in (
       search needs,
       v,
       ap (λ xs. set xs (l .k) (slotOf (RowIs (c .before .figures-at .result)))) (l .inv .2)
@@ -115,7 +122,11 @@ returns-2 c =
     let l = c .before .loop in
     let ok = sym (c .before .before .before .well-formed .ensures) ∙ not-false _ (c .before .before .if1 .left) in
     let e : _≡_ {A = TableFigures} (record { verdict = l .verdict; rows = l .slots })
-    (record { verdict = verdictOf (rowsOf (s .args .t .rows)) (l .k); rows = filled (slotAt (rowsOf (s .args .t .rows))) (slotOf (Refused NoSuchRow)) mostRows (l .k) })
+    (record {
+      verdict = verdictOf (rowsOf (s .args .t .rows)) (l .k);
+      rows
+          = filled (slotAt (rowsOf (s .args .t .rows))) (slotOf (Refused NoSuchRow)) mostRows (l .k);
+    })
     = λ i. record { verdict = l .inv .1 i; rows = l .inv .2 i } in
     e ∙ table-done (s .args .t) (l .k) ok (omega (arith, l .inv .0, c .loop-test .left))
 

@@ -52,8 +52,9 @@ array-copy-out-stretch c = omega (arith, c .before .loop .inv .1, c .loop-test .
 
 add-sum : tie.Need-add-sum Inv-loop μ-loop
 add-sum c =
+    let s = c .before .before .before .before .before .before in
     let l = c .before .before .before .loop in
-    omega (arith, l .inv .3, l .inv .5, stretch (c .before .before .before .before .before .before .args .row .times) (l .j) (omega (arith, l .inv .0, c .before .before .loop-test .taken)))
+    omega (arith, l .inv .3, l .inv .5, stretch (s .args .row .times) (l .j) (omega (arith, l .inv .0, c .before .before .loop-test .taken)))
 
 add-j : tie.Need-add-j Inv-loop μ-loop
 add-j c = search needs
@@ -63,9 +64,10 @@ loop-less c = search needs
 
 loop-again : tie.Need-loop-again Inv-loop μ-loop
 loop-again c =
+    let s = c .before .before .before .before .before .before in
     let l = c .before .before .before .loop in
     let t = c .before .before .loop-test .taken in
-    (l .inv .0, l .inv .1, l .inv .2, l .inv .3, omega arith, omega (arith, l .inv .5, stretch (c .before .before .before .before .before .before .args .row .times) (l .j) (omega (arith, l .inv .0))))
+    (l .inv .0, l .inv .1, l .inv .2, l .inv .3, omega arith, omega (arith, l .inv .5, stretch (s .args .row .times) (l .j) (omega (arith, l .inv .0))))
 
 returns : tie.Need-returns Inv-loop μ-loop
 returns c =

@@ -50,10 +50,15 @@ loop-less c = search needs
 
 loop-again : tie.Need-loop-again Inv-loop μ-loop
 loop-again c =
+    let s = c .before .before .before .before .before in
     let l = c .before .before .before .before .loop in
-    let a = c .before .before .before .before .before .args in
-    let e : unused (getD (a .t1) (l .i) noValue) ≡ true = sym (c .before .unused-row .ensures) ∙ not-false _ (c .if1 .left) in
-    (search needs, l .inv .1, l .inv .2 ∙ all-at unused (a .t1) (l .i) noValue (omega (arith, l .inv .1, c .before .before .before .loop-test .taken)) ∙ and-true _ e)
+    let a = s .args in
+    let e : unused (getD (a .t1) (l .i) noValue) ≡ true = sym (c .before .unused-row .ensures) ∙ not-false _ (c .if1 .left) in (
+      search needs,
+      l .inv .1,
+      l .inv .2 ∙ all-at unused (a .t1) (l .i) noValue (omega (arith, l .inv .1, c .before .before .before .loop-test .taken))
+          ∙ and-true _ e,
+    )
 
 returns-2 : tie.Need-returns-2 Inv-loop μ-loop
 returns-2 c =

@@ -36,8 +36,9 @@ name-byte-requires c κs = search needs
 
 returns-3 : tie.Need-returns-3 Inv-loop μ-loop
 returns-3 c =
+    let s = c .before .before .before .before .before .before .before .before in
     let l = c .before .before .before .before .loop in
-    let e : nameByte (getD (c .before .before .before .before .before .before .before .before .args .bytes .now) (l .i) 0) ≡ false = sym (c .before .name-byte .ensures) ∙ not-true _ (c .if3 .taken) in
+    let e : nameByte (getD (s .args .bytes .now) (l .i) 0) ≡ false = sym (c .before .name-byte .ensures) ∙ not-true _ (c .if3 .taken) in
     sym (l .inv .1 ∙ all-at nameByte _ (l .i) 0 (c .before .before .before .loop-test .taken) ∙ and-false _ e)
 
 add-i : tie.Need-add-i Inv-loop μ-loop
@@ -48,8 +49,9 @@ loop-less c = search needs
 
 loop-again : tie.Need-loop-again Inv-loop μ-loop
 loop-again c =
+    let s = c .before .before .before .before .before .before .before .before in
     let l = c .before .before .before .before .loop in
-    let e : nameByte (getD (c .before .before .before .before .before .before .before .before .args .bytes .now) (l .i) 0) ≡ true = sym (c .before .name-byte .ensures) ∙ not-false _ (c .if3 .left) in
+    let e : nameByte (getD (s .args .bytes .now) (l .i) 0) ≡ true = sym (c .before .name-byte .ensures) ∙ not-false _ (c .if3 .left) in
     (search needs, l .inv .1 ∙ all-at nameByte _ (l .i) 0 (c .before .before .before .loop-test .taken) ∙ and-true _ e)
 
 returns-4 : tie.Need-returns-4 Inv-loop μ-loop

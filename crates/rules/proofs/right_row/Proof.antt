@@ -64,13 +64,15 @@ both-requires-5 c κs = search needs
 
 array-share-prefix-name : tie.Need-array-share-prefix-name
 array-share-prefix-name c =
-    let h = name-fits (c .before .before .before .before .before .before .before .before .before .before .before .before .before .before .before) _ (c .before .before .before .before .before .before .before .before .before .before .before .before .name-len .ensures) in
+    let h = name-fits (c .before .before .before .before .before .before .before .before .before .before .before .before .before .before .before) _
+    (c .before .before .before .before .before .before .before .before .before .before .before .before .name-len .ensures) in
     let l = name-size (c .before .before .before .before .before .before .before .before .before .before .before .before .before .before .before) in
     omega arith
 
 slice-aggregate-right-name : tie.Need-slice-aggregate-right-name
 slice-aggregate-right-name c =
-    let h = name-fits (c .before .before .before .before .before .before .before .before .before .before .before .before .before .before .before .before) _ (c .before .before .before .before .before .before .before .before .before .before .before .before .before .name-len .ensures) in
+    let h = name-fits (c .before .before .before .before .before .before .before .before .before .before .before .before .before .before .before .before) _
+    (c .before .before .before .before .before .before .before .before .before .before .before .before .before .name-len .ensures) in
     let l = name-size (c .before .before .before .before .before .before .before .before .before .before .before .before .before .before .before .before) in
     sym (length-take-le _ _ (omega arith))
 
@@ -90,14 +92,17 @@ part-zero-bytes-start c =
 
 part-zero-bytes-end : tie.Need-part-zero-bytes-end
 part-zero-bytes-end c =
-    let h : longestName ≤ length (c .before .before .before .before .before .before .before .before .before .before .before .before .before .before .before .before .before .before .before .args .row .name) = omega (arith, name-size (c .before .before .before .before .before .before .before .before .before .before .before .before .before .before .before .before .before .before .before)) in
+    let s = c .before .before .before .before .before .before .before .before .before .before .before .before .before .before .before .before .before .before .before in
+    let h : longestName ≤ length (s .args .row .name)
+    = omega (arith, name-size (c .before .before .before .before .before .before .before .before .before .before .before .before .before .before .before .before .before .before .before)) in
     h
 
 zero-bytes-requires : tie.Need-zero-bytes-requires
 zero-bytes-requires c κs = search needs
 
 zero-times-requires : tie.Need-zero-times-requires
-zero-times-requires c κs = times-fit (c .before .before .before .before .before .before .before .before .before .before .before .before .before .before .before .before .before .before .before .before .before) _ (c .before .before .before .before .before .before .before .before .before .before .before .before .before .before .before .before .before .count .ensures)
+zero-times-requires c κs
+    = times-fit (c .before .before .before .before .before .before .before .before .before .before .before .before .before .before .before .before .before .before .before .before .before) _ (c .before .before .before .before .before .before .before .before .before .before .before .before .before .before .before .before .before .count .ensures)
 
 both-requires-7 : tie.Need-both-requires-7
 both-requires-7 c κs = search needs
@@ -109,12 +114,18 @@ returns : tie.Need-returns
 returns c =
     let s = c .before .before .before .before .before .before .before .before .before .before .before .before .before .before .before .before .before .before .before .before .before .before .before .before in
     let n = c .before .before .before .before .before .before .before .before .before .before .before .before .before .before .before .before .before .before .before .before .before .name-len in
-    let front = c .before .before .before .before .before .before .before .right-name .ensures ∙ ap rightName (name-front (s .args .row) (n .result) (n .ensures)) in
+    let front = c .before .before .before .before .before .before .before .right-name .ensures
+    ∙ ap rightName (name-front (s .args .row) (n .result) (n .ensures)) in
     let back = c .before .before .before .zero-bytes .ensures ∙ name-back (s .args .row) (n .result) (name-size s) (n .ensures) in
     c .both8 .ensures
     ∙ row-tests (s .args .row) (c .before .before .before .before .before .before .before .before .before .before .before .before .before .before .before .before .before .before .before .before .count .result) (c .before .before .before .before .before .before .before .before .before .before .before .before .before .before .before .before .before .before .before .before .count .ensures) (c .before .before .before .before .before .before .before .before .before .before .before .before .before .before .before .before .before .before .too-long .ensures) (c .before .before .before .before .before .before .before .before .before .before .before .before .before .before .before .before .before .both .ensures)
-    (c .before .before .before .before .before .before .before .before .before .before .before .before .before .before .before .right-times .ensures) (c .before .before .before .before .before .before .before .before .before .before .before .before .before .before .both2 .ensures) (c .before .before .before .before .before .before .before .before .before .before .before .before .before .before .before .before .right-count .ensures) (c .before .before .before .before .before .before .before .before .before .before .before .before .before .both3 .ensures)
-    (c .before .before .before .before .before .before .before .before .before .before .before .right-number2 .ensures) (c .before .before .before .before .before .before .before .before .before .before .both4 .ensures) (c .before .before .before .before .before .before .before .before .before .before .before .before .right-number .ensures) (c .before .before .before .before .before .before .before .before .before .both5 .ensures)
+    (c .before .before .before .before .before .before .before .before .before .before .before .before .before .before .before .right-times .ensures)
+    (c .before .before .before .before .before .before .before .before .before .before .before .before .before .before .both2 .ensures)
+    (c .before .before .before .before .before .before .before .before .before .before .before .before .before .before .before .before .right-count .ensures) (c .before .before .before .before .before .before .before .before .before .before .before .before .before .both3 .ensures)
+    (c .before .before .before .before .before .before .before .before .before .before .before .right-number2 .ensures)
+    (c .before .before .before .before .before .before .before .before .before .before .both4 .ensures)
+    (c .before .before .before .before .before .before .before .before .before .before .before .before .right-number .ensures)
+    (c .before .before .before .before .before .before .before .before .before .both5 .ensures)
     front (c .before .before .before .before .before .before .both6 .ensures) (c .before .before .zero-times .ensures) (c .before .both7 .ensures) back
 
 pub right-row-spec : {M : Type 1} → statement M

@@ -24,7 +24,8 @@ used-at : (ts : List Length) (n i : ℕ) → i < n → getD (take n (map ticks t
 used-at ts n i h = getD-take n (map ticks ts) i 0 h ∙ time-at ts i
 
 abbrev Inv-loop : tie.InvT-loop
-Inv-loop count times i₀ i = (i ≤ count) × (length (take count (map ticks times)) ≡ count) × (all rightNumber (take count (map ticks times)) ≡ all rightNumber (drop i (take count (map ticks times))))
+Inv-loop count times i₀ i = (i ≤ count) × (length (take count (map ticks times)) ≡ count)
+    × (all rightNumber (take count (map ticks times)) ≡ all rightNumber (drop i (take count (map ticks times))))
 
 abbrev μ-loop : tie.MeasureT-loop
 μ-loop count times i₀ i = count - i
@@ -46,11 +47,13 @@ right-number-requires c κs = search needs
 
 returns : tie.Need-returns Inv-loop μ-loop
 returns c =
+    let s = c .before .before .before .before .before in
     let l = c .before .before .before .before .loop in
-    let a = c .before .before .before .before .before .args in
+    let a = s .args in
     let h : l .i < length (take (a .count) (map ticks (a .t1))) = omega (arith, l .inv .1, c .before .before .before .loop-test .taken) in
     let e : rightNumber (getD (take (a .count) (map ticks (a .t1))) (l .i) 0) ≡ false
-    = ap rightNumber (used-at (a .t1) (a .count) (l .i) (c .before .before .before .loop-test .taken)) ∙ sym (c .before .right-number .ensures) ∙ not-true _ (c .if1 .taken) in
+    = ap rightNumber (used-at (a .t1) (a .count) (l .i) (c .before .before .before .loop-test .taken)) ∙ sym (c .before .right-number .ensures)
+    ∙ not-true _ (c .if1 .taken) in
     sym (l .inv .2 ∙ all-at rightNumber _ (l .i) 0 h ∙ and-false _ e)
 
 add-i : tie.Need-add-i Inv-loop μ-loop
@@ -61,11 +64,13 @@ loop-less c = search needs
 
 loop-again : tie.Need-loop-again Inv-loop μ-loop
 loop-again c =
+    let s = c .before .before .before .before .before in
     let l = c .before .before .before .before .loop in
-    let a = c .before .before .before .before .before .args in
+    let a = s .args in
     let h : l .i < length (take (a .count) (map ticks (a .t1))) = omega (arith, l .inv .1, c .before .before .before .loop-test .taken) in
     let e : rightNumber (getD (take (a .count) (map ticks (a .t1))) (l .i) 0) ≡ true
-    = ap rightNumber (used-at (a .t1) (a .count) (l .i) (c .before .before .before .loop-test .taken)) ∙ sym (c .before .right-number .ensures) ∙ not-false _ (c .if1 .left) in
+    = ap rightNumber (used-at (a .t1) (a .count) (l .i) (c .before .before .before .loop-test .taken)) ∙ sym (c .before .right-number .ensures)
+    ∙ not-false _ (c .if1 .left) in
     (search needs, l .inv .1, l .inv .2 ∙ all-at rightNumber _ (l .i) 0 h ∙ and-true _ e)
 
 returns-2 : tie.Need-returns-2 Inv-loop μ-loop

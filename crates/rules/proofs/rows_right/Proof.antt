@@ -17,7 +17,8 @@ use Rattle.rules.proofs.rows_right.Statement.{statement}
 use Rattle.rules.proofs.rows_right.Tie as tie
 
 abbrev Inv-loop : tie.InvT-loop
-Inv-loop n rows waiting₀ i₀ waiting i = (i ≤ n) × (length rows ≡ mostRows) × (waiting ≡ any waitsValue (take i rows)) × (rowsTest [] (take n rows) ≡ rowsTest (take i rows) (drop i (take n rows)))
+Inv-loop n rows waiting₀ i₀ waiting i = (i ≤ n) × (length rows ≡ mostRows) × (waiting ≡ any waitsValue (take i rows))
+    × (rowsTest [] (take n rows) ≡ rowsTest (take i rows) (drop i (take n rows)))
 
 abbrev μ-loop : tie.MeasureT-loop
 μ-loop n rows waiting₀ i₀ waiting i = n - i
@@ -32,7 +33,8 @@ returns : tie.Need-returns Inv-loop μ-loop
 returns c =
     let l = c .before .before .loop in
     let a = c .before .before .before .args in
-    sym (l .inv .3 ∙ rows-test-at (a .t1) (a .n) (l .i) (c .before .loop-test .taken) (omega (arith, l .inv .1, c .before .before .before .pre)) ∙ and-false _ (ap not (sym (l .inv .2) ∙ c .if1 .taken)))
+    sym (l .inv .3 ∙ rows-test-at (a .t1) (a .n) (l .i) (c .before .loop-test .taken) (omega (arith, l .inv .1, c .before .before .before .pre))
+    ∙ and-false _ (ap not (sym (l .inv .2) ∙ c .if1 .taken)))
 
 mul-row : tie.Need-mul-row Inv-loop μ-loop
 mul-row c = search needs
@@ -45,10 +47,11 @@ right-row-requires c κs = search needs
 
 returns-2 : tie.Need-returns-2 Inv-loop μ-loop
 returns-2 c =
+    let s = c .before .before .before .before .before .before in
     let l = c .before .before .before .before .before .loop in
-    let a = c .before .before .before .before .before .before .args in
+    let a = s .args in
     let e : rightValue (getD (a .t1) (l .i) noValue) ≡ false = sym (c .before .right-row .ensures) ∙ not-true _ (c .if2 .taken) in
-    sym (l .inv .3 ∙ rows-test-at (a .t1) (a .n) (l .i) (c .before .before .before .before .loop-test .taken) (omega (arith, l .inv .1, c .before .before .before .before .before .before .pre))
+    sym (l .inv .3 ∙ rows-test-at (a .t1) (a .n) (l .i) (c .before .before .before .before .loop-test .taken) (omega (arith, l .inv .1, s .pre))
     ∙ and-true _ (ap not (sym (l .inv .2) ∙ c .before .before .before .if1 .left)) ∙ and-false _ e)
 
 named-requires : tie.Need-named-requires Inv-loop μ-loop
@@ -56,11 +59,14 @@ named-requires c κs = search needs
 
 returns-3 : tie.Need-returns-3 Inv-loop μ-loop
 returns-3 c =
+    let s = c .before .before .before .before .before .before .before .before .before in
     let l = c .before .before .before .before .before .before .before .before .loop in
-    let a = c .before .before .before .before .before .before .before .before .before .args in
-    let e : rightValue (getD (a .t1) (l .i) noValue) ≡ true = sym (c .before .before .before .before .right-row .ensures) ∙ not-false _ (c .before .before .before .if2 .left) in
+    let a = s .args in
+    let e : rightValue (getD (a .t1) (l .i) noValue) ≡ true = sym (c .before .before .before .before .right-row .ensures)
+    ∙ not-false _ (c .before .before .before .if2 .left) in
     let f : nameIn (getD (a .t1) (l .i) noValue .name) (take (l .i) (a .t1)) ≡ true = sym (c .before .named .ensures) ∙ c .if3 .taken in
-    sym (l .inv .3 ∙ rows-test-at (a .t1) (a .n) (l .i) (c .before .before .before .before .before .before .before .loop-test .taken) (omega (arith, l .inv .1, c .before .before .before .before .before .before .before .before .before .pre))
+    sym (l .inv .3 ∙ rows-test-at (a .t1) (a .n) (l .i) (c .before .before .before .before .before .before .before .loop-test .taken)
+    (omega (arith, l .inv .1, s .pre))
     ∙ and-true _ (ap not (sym (l .inv .2) ∙ c .before .before .before .before .before .before .if1 .left)) ∙ and-true _ e ∙ and-false _ (ap not f))
 
 waits-requires : tie.Need-waits-requires Inv-loop μ-loop
@@ -74,15 +80,19 @@ loop-less c = search needs
 
 loop-again : tie.Need-loop-again Inv-loop μ-loop
 loop-again c =
+    let s = c .before .before .before .before .before .before .before .before .before .before in
     let l = c .before .before .before .before .before .before .before .before .before .loop in
-    let a = c .before .before .before .before .before .before .before .before .before .before .args in
+    let a = s .args in
     let none : any waitsValue (take (l .i) (a .t1)) ≡ false = sym (l .inv .2) ∙ c .before .before .before .before .before .before .before .if1 .left in
-    let e : rightValue (getD (a .t1) (l .i) noValue) ≡ true = sym (c .before .before .before .before .before .right-row .ensures) ∙ not-false _ (c .before .before .before .before .if2 .left) in
+    let e : rightValue (getD (a .t1) (l .i) noValue) ≡ true = sym (c .before .before .before .before .before .right-row .ensures)
+    ∙ not-false _ (c .before .before .before .before .if2 .left) in
     let f : nameIn (getD (a .t1) (l .i) noValue .name) (take (l .i) (a .t1)) ≡ false = sym (c .before .before .named .ensures) ∙ c .before .if3 .left in (
       search needs,
       l .inv .1,
-      c .waits .ensures ∙ sym (waits-next (a .t1) (l .i) (omega (arith, l .inv .1, c .before .before .before .before .before .before .before .before .before .before .pre, c .before .before .before .before .before .before .before .before .loop-test .taken)) none),
-      l .inv .3 ∙ rows-test-at (a .t1) (a .n) (l .i) (c .before .before .before .before .before .before .before .before .loop-test .taken) (omega (arith, l .inv .1, c .before .before .before .before .before .before .before .before .before .before .pre))
+      c .waits .ensures ∙ sym (waits-next (a .t1) (l .i)
+          (omega (arith, l .inv .1, s .pre, c .before .before .before .before .before .before .before .before .loop-test .taken)) none),
+      l .inv .3 ∙ rows-test-at (a .t1) (a .n) (l .i) (c .before .before .before .before .before .before .before .before .loop-test .taken)
+          (omega (arith, l .inv .1, s .pre))
           ∙ and-true _ (ap not none) ∙ and-true _ e ∙ and-true _ (ap not f),
     )
 

@@ -30,10 +30,15 @@ both-requires-3 c κs = search needs
 returns : tie.Need-returns
 unfolding unused
 returns c =
-    let a = c .before .before .before .before .before .before .before .before .before .before .args .row in
+    let s = c .before .before .before .before .before .before .before .before .before .before in
+    let a = s .args .row in
     c .both3 .ensures
     ∙ ap (λ (z : Bool). z and c .before .before .before .both2 .result) (c .before .zero-bytes .ensures)
-    ∙ ap (λ (z : Bool). all isZero (a .name) and z) (c .before .before .before .both2 .ensures ∙ ap (λ (z : Bool). eqb (a .period .0) 0 and z) (c .before .before .before .before .both .ensures ∙ ap (λ (z : Bool). eqb (a .deadline .0) 0 and z) (c .before .before .before .before .before .zero-times .ensures)))
+    ∙ ap (λ (z : Bool). all isZero (a .name) and z)
+    (c .before .before .before .both2 .ensures
+    ∙ ap (λ (z : Bool). eqb (a .period .0) 0 and z)
+    (c .before .before .before .before .both .ensures
+    ∙ ap (λ (z : Bool). eqb (a .deadline .0) 0 and z) (c .before .before .before .before .before .zero-times .ensures)))
 
 pub unused-row-spec : {M : Type 1} → statement M
 unused-row-spec =

@@ -50,8 +50,10 @@ rest-unused-requires c κs = search needs
 returns-4 : tie.Need-returns-4
 returns-4 c =
     let s = c .before .before .before .before .before .before in
-    let e : rowsTest [] (take (s .args .table .len) (s .args .table .rows)) ≡ true = sym (c .before .before .rows-right .ensures) ∙ not-false _ (c .before .if3 .left) in
-    c .rest-unused .ensures ∙ sym (and-true _ e) ∙ tests-are (s .args .table) (rows-length s) (sized s) (c .before .before .before .before .if1 .left) (c .before .before .before .if2 .left)
+    let e : rowsTest [] (take (s .args .table .len) (s .args .table .rows)) ≡ true = sym (c .before .before .rows-right .ensures)
+    ∙ not-false _ (c .before .if3 .left) in
+    c .rest-unused .ensures ∙ sym (and-true _ e)
+    ∙ tests-are (s .args .table) (rows-length s) (sized s) (c .before .before .before .before .if1 .left) (c .before .before .before .if2 .left)
 
 pub well-formed-spec : {M : Type 1} → statement M
 well-formed-spec =

@@ -17,7 +17,8 @@ use Rattle.rules.proofs.zero_times.Statement.{statement}
 use Rattle.rules.proofs.zero_times.Tie as tie
 
 abbrev Inv-loop : tie.InvT-loop
-Inv-loop from times i₀ i = (i ≤ mostTimes) × (length (map ticks times) ≡ mostTimes) × (all isZero (drop from (map ticks times)) ≡ all isZero (drop i (map ticks times)))
+Inv-loop from times i₀ i = (i ≤ mostTimes) × (length (map ticks times) ≡ mostTimes)
+    × (all isZero (drop from (map ticks times)) ≡ all isZero (drop i (map ticks times)))
 
 abbrev μ-loop : tie.MeasureT-loop
 μ-loop from times i₀ i = mostTimes - i
