@@ -36,6 +36,8 @@ def files():
 
 def main():
     texts = {p: p.read_text() for p in files()}
+    if not any(turned(w) != w for t in texts.values() for w in WORD.findall(t)):
+        return  # done before: its new names would be taken for old ones
     for path in texts:
         apart = APART.get(path.relative_to(TOP / "crates").parts[0], {}) if path.suffix == ".antt" else {}
         texts[path] = WORD.sub(lambda m: apart.get(m.group(0), m.group(0)), texts[path])

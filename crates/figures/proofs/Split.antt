@@ -78,16 +78,16 @@ pub from_end : (ts : List ℕ) (j : ℕ) → length ts ≤ j → from ts j ≡ [
 from_end ts j h = behind-short (drop j (0 ∷ ts)) (simp length-drop (omega arith))
 
 -- split and its rounds, by the result and the rounds of a stretch of c
-abbrev pub split_by-sum : (ℕ → Option ℕ) → List Part → Option ℕ
-split_by-sum res [] = some 0
-split_by-sum res (part s c ∷ l) = plus s (res c) (split_by-sum res l)
+abbrev pub split_by : (ℕ → Option ℕ) → List Part → Option ℕ
+split_by res [] = some 0
+split_by res (part s c ∷ l) = plus s (res c) (split_by res l)
 
 abbrev pub rounds_by : (ℕ → Option ℕ) → (ℕ → ℕ) → List Part → ℕ
 rounds_by res num [] = 0
 rounds_by res num (part s c ∷ l) = num c + unless_none (res c) (rounds_by res num l)
 
 pub split_by-sum : (rows : ℕ → Row) (k : ℕ) (res : ℕ → Option ℕ) → ((c : ℕ) → result (right rows k c) (rows k).deadline c ≡ res c)
-    → (l : List Part) → split_from rows k l ≡ split_by-sum res l
+    → (l : List Part) → split_from rows k l ≡ split_by res l
 split_by-sum rows k res e [] = refl
 split_by-sum rows k res e (part s c ∷ l) = ap (λ o. plus s o (split_from rows k l)) (e c) ∙ ap (plus s (res c)) (split_by-sum rows k res e l)
 
@@ -112,7 +112,7 @@ add_to-zero (some b) = let z : 0 + b ≡ b = omega arith in ap some z
 
 -- the stretches before place j are worked out: sum is what they come to, n are their rounds
 pub record Parted (res : ℕ → Option ℕ) (num : ℕ → ℕ) (ts : List ℕ) (j sum n : ℕ) : Type 0 where
-  pub adds : add_to sum (split_by-sum res (from ts j)) ≡ split_by-sum res (parts ts)
+  pub adds : add_to sum (split_by res (from ts j)) ≡ split_by res (parts ts)
   pub counts : n + rounds_by res num (from ts j) ≡ rounds_by res num (parts ts)
 
 module _ (res : ℕ → Option ℕ) (num : ℕ → ℕ) (ts : List ℕ) where
@@ -120,15 +120,15 @@ module _ (res : ℕ → Option ℕ) (num : ℕ → ℕ) (ts : List ℕ) where
   parted-start =
       let e = from_start ts in
       record {
-        adds = ap (λ l. add_to 0 (split_by-sum res l)) e ∙ add_to-zero (split_by-sum res (parts ts));
+        adds = ap (λ l. add_to 0 (split_by res l)) e ∙ add_to-zero (split_by res (parts ts));
         counts = ap (λ l. 0 + rounds_by res num l) e ∙ (let z : 0 + rounds_by res num (parts ts) ≡ rounds_by res num (parts ts) = omega arith in z);
       }
 
   module _ (j sum n : ℕ) (p : Parted res num ts j sum n) where
-    pub parted-none : j < length ts → res (get_or ts j 0) ≡ none → (split_by-sum res (parts ts) ≡ none) × (rounds_by res num (parts ts) ≡ n + num (get_or ts j 0))
+    pub parted-none : j < length ts → res (get_or ts j 0) ≡ none → (split_by res (parts ts) ≡ none) × (rounds_by res num (parts ts) ≡ n + num (get_or ts j 0))
     parted-none h e =
         let f = from_step ts j h in (
-          sym p.adds ∙ ap (λ l. add_to sum (split_by-sum res l)) f ∙ ap (λ o. add_to sum (plus (get_or (0 ∷ ts) j 0) o (split_by-sum res (from ts (j + 2))))) e,
+          sym p.adds ∙ ap (λ l. add_to sum (split_by res l)) f ∙ ap (λ o. add_to sum (plus (get_or (0 ∷ ts) j 0) o (split_by res (from ts (j + 2))))) e,
           sym p.counts ∙ ap (λ l. n + rounds_by res num l) f ∙ ap (λ o. n + (num (get_or ts j 0) + unless_none o (rounds_by res num (from ts (j + 2))))) e
               ∙ (let z : n + (num (get_or ts j 0) + 0) ≡ n + num (get_or ts j 0) = omega arith in z),
         )
@@ -137,18 +137,18 @@ module _ (res : ℕ → Option ℕ) (num : ℕ → ℕ) (ts : List ℕ) where
     parted-some h r e =
         let f = from_step ts j h in
         let s = get_or (0 ∷ ts) j 0 in
-        let o = split_by-sum res (from ts (j + 2)) in
+        let o = split_by res (from ts (j + 2)) in
         let m = rounds_by res num (from ts (j + 2)) in
         record {
-          adds = sym (add_to-plus sum s r o) ∙ ap (λ x. add_to sum (plus s x o)) (sym e) ∙ ap (λ l. add_to sum (split_by-sum res l)) (sym f) ∙ p.adds;
+          adds = sym (add_to-plus sum s r o) ∙ ap (λ x. add_to sum (plus s x o)) (sym e) ∙ ap (λ l. add_to sum (split_by res l)) (sym f) ∙ p.adds;
           counts = (let z : n + num (get_or ts j 0) + m ≡ n + (num (get_or ts j 0) + m) = omega arith in z)
               ∙ ap (λ x. n + (num (get_or ts j 0) + unless_none x m)) (sym e) ∙ ap (λ l. n + rounds_by res num l) (sym f) ∙ p.counts;
         }
 
-    pub parted-end : length ts ≤ j → (split_by-sum res (parts ts) ≡ some sum) × (rounds_by res num (parts ts) ≡ n)
+    pub parted-end : length ts ≤ j → (split_by res (parts ts) ≡ some sum) × (rounds_by res num (parts ts) ≡ n)
     parted-end h =
         let f = from_end ts j h in (
-          sym p.adds ∙ ap (λ l. add_to sum (split_by-sum res l)) f ∙ (let z : sum + 0 ≡ sum = omega arith in ap some z),
+          sym p.adds ∙ ap (λ l. add_to sum (split_by res l)) f ∙ (let z : sum + 0 ≡ sum = omega arith in ap some z),
           sym p.counts ∙ ap (λ l. n + rounds_by res num l) f ∙ (let z : n + 0 ≡ n = omega arith in z),
         )
 

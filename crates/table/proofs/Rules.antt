@@ -17,7 +17,7 @@ use Rattle.table.specs.declared.Row.{Row as RowValue}
 use Rattle.table.specs.declared.Table.{Table as TableValue}
 use Rattle.table.specs.Limits.{most_rows, most_times, longest_name, largest_number}
 use Rattle.table.specs.Paper.{Row, Table, name_byte, right_name, right_number, right_count, right_row, named, right_rows, right_table}
-use Rattle.table.specs.Value.{row_of, table_of, row_value, empty_row, table_value, name_in, same_row-equal, same_rows, well_formed}
+use Rattle.table.specs.Value.{row_of, table_of, row_value, empty_row, table_value, name_in, same_row, same_rows, well_formed}
 use Rattle.ticks.specs.Ticks.{ticks, long}
 
 -- a row on paper, and what its rules say
@@ -131,8 +131,8 @@ rows_right above (r ∷ t) e =
 
 -- equality of values as a test
 
-same_row-equal : (v w : RowValue) → same_row-equal v w ≡ true → v ≡ w
-unfolding same_row-equal
+same_row-equal : (v w : RowValue) → same_row v w ≡ true → v ≡ w
+unfolding same_row
 same_row-equal v w e =
     let a = and_parts e in
     let b = and_parts a.1 in
@@ -152,7 +152,7 @@ same-rows (v ∷ vs) (w ∷ ws) e =
     ap (λ (x : RowValue). x ∷ vs) (same_row-equal v w (and_parts e).0) ∙ ap (λ (l : List RowValue). w ∷ l) (same-rows vs ws (and_parts e).1)
 
 rows_refl : (vs : List RowValue) → same_rows vs vs ≡ true
-unfolding same_rows same_row-equal
+unfolding same_rows same_row
 rows_refl [] = refl
 rows_refl (v ∷ vs) =
     and_both (and_both (same_refl v.name)

@@ -47,8 +47,8 @@ unfoldable pub name_in : List ℕ → List RowValue → Bool
 name_in name rows = any (λ v. same name v.name) rows
 
 -- two values of a row are equal
-unfoldable pub same_row-equal : RowValue → RowValue → Bool
-same_row-equal v w =
+unfoldable pub same_row : RowValue → RowValue → Bool
+same_row v w =
     same v.name w.name and eqb v.period.0 w.period.0 and eqb v.deadline.0 w.deadline.0
     and same (map ticks v.times) (map ticks w.times)
 
@@ -57,7 +57,7 @@ unfoldable pub same_rows : List RowValue → List RowValue → Bool
 same_rows [] [] = true
 same_rows [] (w ∷ ws) = false
 same_rows (v ∷ vs) [] = false
-same_rows (v ∷ vs) (w ∷ ws) = same_row-equal v w and same_rows vs ws
+same_rows (v ∷ vs) (w ∷ ws) = same_row v w and same_rows vs ws
 
 -- the test behind refusal 20: the value is that of the table it stands for, and that is a right table
 unfoldable pub well_formed : TableValue → Bool

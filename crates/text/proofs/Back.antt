@@ -24,7 +24,7 @@ use Rattle.fields.specs.Fields.{line_feed, joined}
 use Rattle.text.specs.declared.Outcome.TheVariants.{Accepted, Refused}
 use Rattle.text.specs.declared.Reading.{Reading}
 use Rattle.text.specs.Split.{lines, fields}
-use Rattle.text.specs.Read.{Answer, accepted, refused, Line, got, bad, fixed_fields, right_fields, no_row, with_name, with_number, on_number, on_line-in, read_fields, check_row, read_line, read_lines, read_text, reading_of}
+use Rattle.text.specs.Read.{Answer, accepted, refused, Line, got, bad, fixed_fields, right_fields, no_row, with_name, with_number, on_number, on_line, read_fields, check_row, read_line, read_lines, read_text, reading_of}
 use Rattle.text.specs.Write.{line_text, table_text}
 use Rattle.text.proofs.Split.{ended, lines-some, lines-text}
 use Rattle.text.proofs.Lines.{numbers_of, right-row, right-number, fields_of, line-written}
@@ -142,7 +142,7 @@ line-back n above l q e =
     go (right_fields (length (fields l))) (read_fields n 1 no_row (fields l)) refl refl p5.0 p5.1
   where
     go : (b : Bool) (f : Line) → right_fields (length (fields l)) ≡ b → read_fields n 1 no_row (fields l) ≡ f → any waits above ≡ false
-        → (if b then on_line-in f (check_row n above) bad else bad (FieldCount n)) ≡ got q → Taken above l q
+        → (if b then on_line f (check_row n above) bad else bad (FieldCount n)) ≡ got q → Taken above l q
     go false f c g w e = not-bad (FieldCount n) q e
     go true (bad x) c g w e = not-bad x q e
     go true (got r) c g w e =
@@ -174,7 +174,7 @@ lines-back (l ∷ ls) above t h e =
     go (read_line (length above + 1) above l) refl p4.1
     (λ r i. lines-back ls (above ++ (r ∷ [])) t (omega (arith, n, length-append above (r ∷ []))) i)
   where
-    go : (x : Line) → read_line (length above + 1) above l ≡ x → on_line-in x (λ r. read_lines (above ++ (r ∷ [])) ls) refused ≡ accepted t
+    go : (x : Line) → read_line (length above + 1) above l ≡ x → on_line x (λ r. read_lines (above ++ (r ∷ [])) ls) refused ≡ accepted t
         → ((r : Row) → read_lines (above ++ (r ∷ [])) ls ≡ accepted t → Rows (above ++ (r ∷ [])) ls t) → Rows above (l ∷ ls) t
     go (bad x) q e ih = not-refused x t e
     go (got r) q e ih =

@@ -20,7 +20,7 @@ use Rattle.refusals.specs.declared.Refusal.TheVariants.{NoText, LongText, NoLine
 use Rattle.refusals.specs.Refusals.{number_of, line_of, field_of}
 use Rattle.fields.specs.Fields.{line_feed}
 use Rattle.text.specs.Split.{lines, fields}
-use Rattle.text.specs.Read.{Answer, accepted, refused, Line, got, bad, fixed_fields, right_fields, no_row, with_name, with_number, on_number, read_fields, check_row, on_line-in, read_line, read_lines, read_text}
+use Rattle.text.specs.Read.{Answer, accepted, refused, Line, got, bad, fixed_fields, right_fields, no_row, with_name, with_number, on_number, read_fields, check_row, on_line, read_line, read_lines, read_text}
 
 -- the most fields of a line
 abbrev most_fields : ℕ
@@ -73,7 +73,7 @@ check-in n above r =
     (either (ltb r.deadline (sum r.times)) (numbered (record { low = omega arith; high = omega arith; line = refl; field = omega arith }))
     (either (named r.name above) (numbered (record { low = omega arith; high = omega arith; line = refl; field = omega arith })) good))
 
-on_line-in : {n : ℕ} (x : Line) (g : Row → Line) → InLine n x → ((r : Row) → InLine n (g r)) → InLine n (on_line-in x g bad)
+on_line-in : {n : ℕ} (x : Line) (g : Row → Line) → InLine n x → ((r : Row) → InLine n (g r)) → InLine n (on_line x g bad)
 on_line-in (got r) g p q = q r
 on_line-in (bad x) g p q = p
 
@@ -88,7 +88,7 @@ line-in n above l =
     (go (right_fields (length (fields l))) refl)
   where
     go : (b : Bool) → right_fields (length (fields l)) ≡ b
-        → InLine n (if b then on_line-in (read_fields n 1 no_row (fields l)) (check_row n above) bad else bad (FieldCount n))
+        → InLine n (if b then on_line (read_fields n 1 no_row (fields l)) (check_row n above) bad else bad (FieldCount n))
     go true e = on_line-in _ (check_row n above) (fields_in n 1 no_row (fields l) (few-fields (length (fields l)) e)) (check-in n above)
     go false e = numbered {x = FieldCount n} (record { low = omega arith; high = omega arith; line = refl; field = omega arith })
 
@@ -101,7 +101,7 @@ lines-in above (l ∷ ls) h =
   where
     go : (b : Bool) → eqb (length above) most_rows ≡ b → (x : Line) → InLine (length above + 1) x
         → ((r : Row) → length above < most_rows → InLines (read_lines (above ++ (r ∷ [])) ls))
-        → InLines (if b then refused (ManyLines (length above + 1)) else on_line-in x (λ r. read_lines (above ++ (r ∷ [])) ls) refused)
+        → InLines (if b then refused (ManyLines (length above + 1)) else on_line x (λ r. read_lines (above ++ (r ∷ [])) ls) refused)
     go true e x p q = record { low = omega arith; high = omega arith; first = omega arith; last = omega arith; field = omega arith }
     go false e (got r) p q = q r (omega (arith, eqb-false (length above) most_rows e))
     go false e (bad x) (numbered p) q =

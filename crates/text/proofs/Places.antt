@@ -19,7 +19,7 @@ use Rattle.refusals.specs.declared.Refusal.{Refusal}
 use Rattle.refusals.specs.Refusals.{number_of, line_of, field_of}
 use Rattle.fields.specs.Fields.{line_feed}
 use Rattle.text.specs.Split.{lines, fields}
-use Rattle.text.specs.Read.{Answer, accepted, refused, Line, got, bad, fixed_fields, right_fields, no_row, with_name, with_number, on_number, on_line-in, read_fields, check_row, read_line, read_lines, read_text}
+use Rattle.text.specs.Read.{Answer, accepted, refused, Line, got, bad, fixed_fields, right_fields, no_row, with_name, with_number, on_number, on_line, read_fields, check_row, read_line, read_lines, read_text}
 
 -- a refusal of a text: below 20, on one of the lines that a text may have or the next, and at one of a line's fields; 0 is none of them
 pub record Place (x : Refusal) : Type 0 where
@@ -78,7 +78,7 @@ line-place n above l h =
     (λ e. go (read_fields n 1 no_row (fields l)) (fields-place (fields l) n 1 no_row h (omega (arith, fields-most (length (fields l)) e))))
     (λ e. omega arith))
   where
-    go : (x : Line) → LinePlace x → LinePlace (on_line-in x (check_row n above) bad)
+    go : (x : Line) → LinePlace x → LinePlace (on_line x (check_row n above) bad)
     go (got r) p = check-place n above r h
     go (bad x) p = p
 
@@ -91,7 +91,7 @@ lines-place (l ∷ ls) above h =
     (λ e. go (read_line (length above + 1) above l) (line-place (length above + 1) above l (omega arith))
     (λ r. lines-place ls (above ++ (r ∷ [])) (omega (arith, eqb-false (length above) most_rows e, length-append above (r ∷ [])))))
   where
-    go : (x : Line) → LinePlace x → ((r : Row) → TextPlace (read_lines (above ++ (r ∷ [])) ls)) → TextPlace (on_line-in x (λ r. read_lines (above ++ (r ∷ [])) ls) refused)
+    go : (x : Line) → LinePlace x → ((r : Row) → TextPlace (read_lines (above ++ (r ∷ [])) ls)) → TextPlace (on_line x (λ r. read_lines (above ++ (r ∷ [])) ls) refused)
     go (got r) p q = q r
     go (bad x) p q = p
 

@@ -72,15 +72,15 @@ check_row n above r =
     else got r
 
 -- goes on with the row, or with the refusal
-abbrev pub on_line-in : {A : Type 0} → Line → (Row → A) → (Refusal → A) → A
-on_line-in (got r) f g = f r
-on_line-in (bad x) f g = g x
+abbrev pub on_line : {A : Type 0} → Line → (Row → A) → (Refusal → A) → A
+on_line (got r) f g = f r
+on_line (bad x) f g = g x
 
 -- 5 to 11: line n, below the rows above it
 unfoldable pub read_line : ℕ → Table → List ℕ → Line
 read_line n above l =
     if any waits above then bad (AfterWaiting n)
-    else if right_fields (length (fields l)) then on_line-in (read_fields n 1 no_row (fields l)) (check_row n above) bad
+    else if right_fields (length (fields l)) then on_line (read_fields n 1 no_row (fields l)) (check_row n above) bad
     else bad (FieldCount n)
 
 -- 4 to 11: the lines below the rows above them
@@ -88,7 +88,7 @@ unfoldable pub read_lines : Table → List (List ℕ) → Answer
 read_lines above [] = accepted above
 read_lines above (l ∷ ls) =
     if eqb (length above) most_rows then refused (ManyLines (length above + 1))
-    else on_line-in (read_line (length above + 1) above l) (λ r. read_lines (above ++ (r ∷ [])) ls) refused
+    else on_line (read_line (length above + 1) above l) (λ r. read_lines (above ++ (r ∷ [])) ls) refused
 
 -- 1, 2 and 3 look at the whole text, then it goes line by line
 unfoldable pub read_text : List ℕ → Answer

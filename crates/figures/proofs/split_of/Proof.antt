@@ -21,7 +21,7 @@ use Rattle.figures.specs.Work.{safe_number, worked_of, split_worked, rows_from, 
 use Rattle.figures.specs.declared.Above.{Above}
 use Rattle.figures.specs.declared.Worked.{Worked}
 use Rattle.figures.proofs.Values.{deadline-safe, time-used}
-use Rattle.figures.proofs.Split.{right-same, worked-fits, worked-few, figure-back, split_by-sum, rounds_by, split_by-sum, rounds-by, Parted}
+use Rattle.figures.proofs.Split.{right-same, worked-fits, worked-few, figure-back, split_by, rounds_by, split_by-sum, rounds-by, Parted}
 use Rattle.figures.proofs.Split.{parted-start, parted-none, parted-some, parted-end, before-used, time-sum}
 use Rattle.figures.proofs.split_of.Statement.{statement}
 use Rattle.figures.proofs.split_of.Tie as tie
@@ -98,7 +98,7 @@ module _ (above : Above) (rows : List RowValue) (k : ℕ) (t : Taken rows k abov
       wait-sum xs (suc j) = time-sum xs j
 
   -- the answer, in the rows' own terms
-  finish : (o : Option ℕ) (n : ℕ) → split_by-sum (res above k d) (parts ts) ≡ o → rounds_by (res above k d) (num above k d) (parts ts) ≡ n
+  finish : (o : Option ℕ) (n : ℕ) → split_by (res above k d) (parts ts) ≡ o → rounds_by (res above k d) (num above k d) (parts ts) ≡ n
       → record { figure = figure_of o; rounds = n } ≡ split_worked (rows_of rows) k
   finish o n e f =
       let same : (c : ℕ) → right (rows_of rows) k c ≡ right (rows_from above.periods above.works) k c
