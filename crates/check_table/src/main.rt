@@ -1,4 +1,6 @@
 // The checking program: reads a table text from standard input, and writes its report or the line of its refusal.
+#![tactic(auto)]
+
 use input::Input;
 use table::Table;
 

@@ -1,10 +1,12 @@
 // Decimal numbers in bytes: read from a part of a slice, and written into a lent buffer.
+#![tactic(auto)]
+
 ghost use Rattle.std.specs.Prelude.{◌≡◌, ◌≤◌, length, drop};
 ghost use Rattle.words.specs.Buffer.{placed, fitted};
 ghost use Rattle.decimal.specs.Decimal.{digits, read_number};
 
 // What bytes read as.
-#[derive(Drop)]
+#[derive(Clone, Copy)]
 pub enum Number {
     Is(u64),
     No,
@@ -64,7 +66,7 @@ pub fn width(n: u64) -> usize
 }
 
 // A number's digits, built from the last one forwards: they start at `at`.
-#[derive(Drop)]
+#[derive(Clone, Copy)]
 struct Scratch {
     bytes: [u8; 20],
     at: usize,
@@ -96,5 +98,5 @@ pub fn write(n: u64, out: &mut [u8]) -> usize
     if out.len() < 20 - at {
         return 0;
     }
-    bytes::copy(&bytes[at..], out)
+    buffers::copy(&bytes[at..], out)
 }

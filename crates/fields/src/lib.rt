@@ -1,4 +1,6 @@
 // Fields in a lent buffer. Each is written with the tab that parts it from the field before it, whole or not at all.
+#![tactic(auto)]
+
 ghost use Rattle.std.specs.Prelude.{◌≡◌, ◌∷◌};
 ghost use Rattle.words.specs.Buffer.{placed, fitted};
 ghost use Rattle.decimal.specs.Decimal.{digits};
@@ -18,7 +20,7 @@ pub fn write_word(word: &[u8], out: &mut [u8]) -> usize
         return 0;
     }
     out[0] = TAB;
-    1 + bytes::copy(word, &mut out[1..])
+    1 + buffers::copy(word, &mut out[1..])
 }
 
 // A tab and a number: how many bytes were written.

@@ -1,4 +1,6 @@
 // The figures of a row and of a table: the recurrence with its rounds, whole, split and the verdicts.
+#![tactic(auto)]
+
 ghost use Rattle.std.specs.Prelude.{◌≡◌, ◌∷◌, map, ℕ, ◌+◌, ◌-◌, ◌*◌, ◌<◌, ◌≤◌, length, get_or};
 ghost use Rattle.table.specs.Limits.{most_rows, most_times};
 ghost use Rattle.table.specs.Paper.{parts, work};
@@ -14,7 +16,7 @@ use ticks::Length;
 use verdicts::{Figure, TableVerdict, Verdict};
 
 // The figures of a row.
-#[derive(Drop)]
+#[derive(Clone, Copy)]
 pub struct RowFigures {
     pub verdict: Verdict,
     pub whole: Figure,
@@ -23,34 +25,34 @@ pub struct RowFigures {
 }
 
 // The answer to a question about a row.
-#[derive(Drop)]
+#[derive(Clone, Copy)]
 pub enum Answer {
     Row(RowFigures),
     Refused(Refusal),
 }
 
 // A row's answer in an array: an array of enums is no field, and an array of structs is.
-#[derive(Drop)]
+#[derive(Clone, Copy)]
 pub struct Slot {
     pub answer: Answer,
 }
 
 // The figures of a whole table: its verdict, and the answer about each row; 21 behind the last row.
-#[derive(Drop)]
+#[derive(Clone, Copy)]
 pub struct TableFigures {
     pub verdict: TableVerdict,
     pub rows: [Slot; Table::ROWS],
 }
 
 // What a recurrence came to, and how often its right side was worked out.
-#[derive(Drop)]
+#[derive(Clone, Copy)]
 struct Worked {
     figure: Figure,
     rounds: u64,
 }
 
 // Of each row above, T and all its C.
-#[derive(Drop)]
+#[derive(Clone, Copy)]
 struct Above {
     periods: [u64; Table::ROWS],
     works: [u64; Table::ROWS],
@@ -90,7 +92,7 @@ fn above_of(rows: [Row; Table::ROWS], k: usize) -> Above
 }
 
 // A row counted on: up to which instant its count of releases holds, and what the releases that came in ask for.
-#[derive(Drop)]
+#[derive(Clone, Copy)]
 struct Ahead(u64, u64);
 
 // Counts a row on from the instant `held` until its count holds at t. The first release is chosen without a branch, since whether

@@ -1,5 +1,7 @@
 // The full run: the number of ticks is the argument, the table text comes from standard input; writes for each row its name and the
 // completion instant of its first job.
+#![tactic(auto)]
+
 use decimal::Number;
 use input::Input;
 use table::Table;

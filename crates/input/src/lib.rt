@@ -1,11 +1,13 @@
 // Standard input as a whole, in as many reads as it takes.
+#![tactic(auto)]
+
 ghost use Rattle.std.specs.Prelude.{◌≡◌, ℕ};
 ghost use Rattle.io.specs.Counts.{IsPrefixLen};
 
 use libc::STDIN_FILENO;
 
 // What standard input gave.
-#[derive(Drop)]
+#[derive(Clone, Copy)]
 pub enum Input {
     // So many bytes, at the front of the buffer.
     Bytes(usize),

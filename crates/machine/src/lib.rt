@@ -1,4 +1,6 @@
 // The kernel's machine, and the full run.
+#![tactic(auto)]
+
 ghost use Rattle.std.specs.Prelude.{◌≡◌, ◌+◌, ◌≤◌, length};
 ghost use Rattle.ticks.specs.Ticks.{most, instant};
 ghost use Rattle.table.specs.Limits.{most_rows};
@@ -12,27 +14,27 @@ use table::{Row, Table};
 use ticks::{Instant, Length};
 
 // Whether a full run was carried out.
-#[derive(Drop)]
+#[derive(Clone, Copy)]
 pub enum Outcome {
     Ran,
     Refused(Refusal),
 }
 
 // The completion of a row's first job: its instant, or that it is not complete.
-#[derive(Drop)]
+#[derive(Clone, Copy)]
 pub enum First {
     At(Instant),
     Not,
 }
 
 // A row's completion in an array: an array of enums is no field, and an array of structs is.
-#[derive(Drop)]
+#[derive(Clone, Copy)]
 pub struct Slot {
     pub first: First,
 }
 
 // What a full run gives; after a refusal, and behind the last row, no instant.
-#[derive(Drop)]
+#[derive(Clone, Copy)]
 pub struct FullRun {
     pub outcome: Outcome,
     pub rows: [Slot; Table::ROWS],
@@ -43,7 +45,7 @@ pub struct FullRun {
 const LANE: usize = Table::TIMES + 3;
 
 // Of a row the oldest job that is not complete, or the next one to come. Late jobs behind it need no place: each is due a period after the one before it.
-#[derive(Drop)]
+#[derive(Clone, Copy)]
 struct Cell {
     release: Instant,
     // From this instant on the job's stretch is ready: its release, or the end of the suspension before the stretch.
@@ -55,7 +57,7 @@ struct Cell {
 }
 
 // The state between two ticks.
-#[derive(Drop)]
+#[derive(Clone, Copy)]
 struct Machine {
     now: Instant,
     // The row that ran in the last tick; the number of rows where none did.

@@ -1,4 +1,6 @@
 // The boundary for the box's firmware and for other programs: two functions in the C ABI, over bytes and numbers. include/musselpath.h declares them.
+#![tactic(auto)]
+
 ghost use Rattle.std.specs.Prelude.{◌≡◌, true, ◌≤◌, length};
 ghost use Rattle.words.specs.Buffer.{over, placed, fitted};
 ghost use Rattle.refusals.specs.Refusals.{line_of, field_of};

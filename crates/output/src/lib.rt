@@ -1,4 +1,6 @@
 // What the programs write: an answer to standard output, and words about trouble to standard error.
+#![tactic(auto)]
+
 ghost use Rattle.output.specs.Output.{AllOrNone};
 
 use libc::{STDERR_FILENO, STDOUT_FILENO};

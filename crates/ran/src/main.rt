@@ -1,5 +1,7 @@
 // Runs full runs, chosen by hand and drawn, against the second program's stored answers. An item of the stream is the number of
 // ticks in four bytes, the highest first, and then a text.
+#![tactic(auto)]
+
 use replies::Kind;
 
 fn main() {

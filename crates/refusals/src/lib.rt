@@ -1,9 +1,11 @@
 // Why the library refuses, and the number, line and field that document 01 gives each reason.
+#![tactic(auto)]
+
 ghost use Rattle.std.specs.Prelude.{◌≡◌};
 ghost use Rattle.refusals.specs.Refusals.{number_of, line_of, field_of};
 
 // A reason that has a line holds it, from 1; BadNumber holds the field, from 1, besides.
-#[derive(Drop)]
+#[derive(Clone, Copy)]
 pub enum Refusal {
     NoText,
     LongText,

@@ -1,4 +1,6 @@
 // The line of a refusal, put at the front of a lent buffer or not at all.
+#![tactic(auto)]
+
 ghost use Rattle.std.specs.Prelude.{◌≡◌, ◌≤◌, length};
 ghost use Rattle.words.specs.Buffer.{over, placed};
 ghost use Rattle.fields.specs.Fields.{fields_text};
@@ -43,7 +45,7 @@ pub fn write(why: Refusal, out: &mut [u8]) -> Written
     if out.len() < 9 + decimal::width(number) + place_len(why) {
         return Written::Refused(Refusal::NoRoom);
     }
-    let mut at = bytes::copy(b"refused", out);
+    let mut at = buffers::copy(b"refused", out);
     at += fields::write_number(number, &mut out[at..]);
     at += write_place(why, &mut out[at..]);
     out[at] = LINE_FEED;

@@ -1,4 +1,6 @@
 // What the programs answer, put at the front of a buffer in which every answer has room.
+#![tactic(auto)]
+
 ghost use Rattle.std.specs.Prelude.{◌≡◌, true, ◌≤◌, ◌<◌, length};
 ghost use Rattle.words.specs.Buffer.{over};
 ghost use Rattle.table.specs.Value.{table_of, well_formed};
@@ -18,7 +20,7 @@ pub const LONGEST: usize = Table::TEXT;
 const TICKS: usize = 4;
 
 // What is to be made of an item of a stream.
-#[derive(Drop)]
+#[derive(Clone, Copy)]
 pub enum Kind {
     // Its report.
     Report,

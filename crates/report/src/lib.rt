@@ -1,4 +1,6 @@
 // The report of a table, and the whole answer to a text, each put at the front of a lent buffer or not at all.
+#![tactic(auto)]
+
 ghost use Rattle.std.specs.Prelude.{◌≡◌, true, ◌∷◌, ◌≤◌, length};
 ghost use Rattle.words.specs.Buffer.{over, placed, fitted};
 ghost use Rattle.fields.specs.Fields.{tab};
@@ -79,7 +81,7 @@ fn write_judged(row: Row, verdict: Verdict, out: &mut [u8]) -> usize
     let name = row.name;
     let len = row.name_len();
     let figure = figure_of(verdict);
-    let mut at = bytes::copy(&name[..len], out);
+    let mut at = buffers::copy(&name[..len], out);
     at += write_verdict(verdict, &mut out[at..]);
     at += write_figure(figure, &mut out[at..]);
     at
@@ -205,7 +207,7 @@ fn write_last(verdict: TableVerdict, out: &mut [u8]) -> usize
     requires { length (last_line verdict) ≤ length out.old }
     ensures { (result ≡ length (last_line verdict)) × (out.new ≡ over (last_line verdict) out.old) }
 {
-    let mut at = bytes::copy(b"table", out);
+    let mut at = buffers::copy(b"table", out);
     at += write_table_verdict(verdict, &mut out[at..]);
     out[at] = LINE_FEED;
     at + 1

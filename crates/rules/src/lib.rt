@@ -1,4 +1,6 @@
 // The rules of a table, tested in code: of a name, of a count of times, and of a whole table value.
+#![tactic(auto)]
+
 ghost use Rattle.std.specs.Prelude.{◌≡◌, [], map, ◌≤◌, take, drop};
 ghost use Rattle.words.specs.Choice.{◌and◌};
 ghost use Rattle.words.specs.Lists.{is_zero, all};

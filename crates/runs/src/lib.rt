@@ -1,4 +1,6 @@
 // The full run in text, put at the front of a lent buffer or not at all.
+#![tactic(auto)]
+
 ghost use Rattle.std.specs.Prelude.{◌≡◌, true, [], ◌∷◌, ◌≤◌, length};
 ghost use Rattle.words.specs.Buffer.{over, placed, fitted};
 ghost use Rattle.fields.specs.Fields.{tab, line};
@@ -45,7 +47,7 @@ fn write_row(row: Row, first: First, out: &mut [u8]) -> usize
 {
     let name = row.name;
     let len = row.name_len();
-    let mut at = bytes::copy(&name[..len], out);
+    let mut at = buffers::copy(&name[..len], out);
     at += write_first(first, &mut out[at..]);
     out[at] = LINE_FEED;
     at + 1

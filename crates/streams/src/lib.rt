@@ -1,11 +1,13 @@
 // Items from standard input: each is its length as two bytes, the higher one first, then so many bytes. The stream ends with the input.
+#![tactic(auto)]
+
 ghost use Rattle.std.specs.Prelude.{◌≡◌, ℕ, ◌<◌};
 ghost use Rattle.io.specs.Counts.{IsPrefixLen};
 
 use input::Input;
 
 // What comes next in the stream.
-#[derive(Drop)]
+#[derive(Clone, Copy)]
 pub enum Item {
     // So many bytes, at the front of the buffer.
     Bytes(usize),

@@ -1,5 +1,7 @@
 // A table of rows, by value, and its limits.
 // A row keeps zeros behind its name and behind its times, and rows that are not used are all zero: so no count can disagree with what it counts.
+#![tactic(auto)]
+
 ghost use Rattle.std.specs.Prelude.{◌≡◌, map, ltb, length, take};
 ghost use Rattle.words.specs.Lists.{sum, same};
 ghost use Rattle.table.specs.Paper.{waits};
@@ -8,7 +10,7 @@ ghost use Rattle.ticks.specs.Ticks.{ticks};
 
 use ticks::Length;
 
-#[derive(Drop)]
+#[derive(Clone, Copy)]
 pub struct Row {
     pub name: [u8; Table::NAME],
     // T, the least distance between releases.
@@ -20,7 +22,7 @@ pub struct Row {
 }
 
 // Highest priority first.
-#[derive(Drop)]
+#[derive(Clone, Copy)]
 pub struct Table {
     pub rows: [Row; Table::ROWS],
     pub len: usize,

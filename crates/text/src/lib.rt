@@ -1,4 +1,6 @@
 // The text of a table: read line by line and field by field, and written into a lent buffer.
+#![tactic(auto)]
+
 ghost use Rattle.std.specs.Prelude.{◌≡◌, true, map, suc, ◌+◌, ◌-◌, ◌≤◌, ◌<◌, length, take, drop};
 ghost use Rattle.words.specs.Lists.{up_to, padded};
 ghost use Rattle.words.specs.Buffer.{over};
@@ -19,21 +21,21 @@ use table::{Row, Table};
 use ticks::Length;
 
 // What became of a text.
-#[derive(Drop)]
+#[derive(Clone, Copy)]
 pub enum Outcome {
     Accepted,
     Refused(Refusal),
 }
 
 // What reading gives: the table, or the refusal and an empty table.
-#[derive(Drop)]
+#[derive(Clone, Copy)]
 pub struct Reading {
     pub outcome: Outcome,
     pub table: Table,
 }
 
 // What writing gives: the length of the text, or the refusal.
-#[derive(Drop)]
+#[derive(Clone, Copy)]
 pub enum Written {
     Bytes(usize),
     Refused(Refusal),
@@ -88,7 +90,7 @@ fn name_bytes(field: &[u8]) -> [u8; Table::NAME]
     ensures { result ≡ padded longest_name field.now }
 {
     let mut name = [0u8; Table::NAME];
-    bytes::copy(field, &mut name);
+    buffers::copy(field, &mut name);
     name
 }
 
@@ -230,7 +232,7 @@ fn write_line(row: Row, out: &mut [u8]) -> usize
     let len = row.name_len();
     let times = row.times;
     let count = row.count();
-    let mut at = bytes::copy(&name[..len], out);
+    let mut at = buffers::copy(&name[..len], out);
     at += fields::write_number(row.period.0, &mut out[at..]);
     at += fields::write_number(row.deadline.0, &mut out[at..]);
     at += write_times(times, count, &mut out[at..]);

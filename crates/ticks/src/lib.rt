@@ -1,14 +1,16 @@
 // Instants and lengths of time, in whole ticks: two kinds of number that no sum mixes up.
 // Two instants cannot be added: there is no function for it.
+#![tactic(auto)]
+
 ghost use Rattle.std.specs.Prelude.{◌≡◌, ◌+◌, ◌-◌, min};
 ghost use Rattle.ticks.specs.Ticks.{most, later_by, between, together};
 
 // A point of time: a release, a completion, an absolute deadline.
-#[derive(Drop)]
+#[derive(Clone, Copy)]
 pub struct Instant(pub u64);
 
 // A distance in time: T, D, C, S, R.
-#[derive(Drop)]
+#[derive(Clone, Copy)]
 pub struct Length(pub u64);
 
 // The largest number of ticks that either can hold. A sum beyond it stays there, so that each sum has an answer for all input.

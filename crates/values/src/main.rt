@@ -1,4 +1,6 @@
 // Table values, each right or with a single rule broken, and what the test of a table value says of them.
+#![tactic(auto)]
+
 use table::{Row, Table};
 use ticks::Length;
 

@@ -1,4 +1,6 @@
 // Answers the items of a stream, one after the other: next item, its answer, one write.
+#![tactic(auto)]
+
 ghost use Rattle.std.specs.Prelude.{◌≤◌};
 
 use replies::Kind;

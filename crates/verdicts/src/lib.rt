@@ -1,4 +1,6 @@
 // What is said of a row and of a table: a figure, and a verdict made of the bounds.
+#![tactic(auto)]
+
 ghost use Rattle.std.specs.Prelude.{◌≡◌};
 ghost use Rattle.verdicts.specs.Verdicts.{figure_of, number_in, at_most, single, lesser, joined_of};
 
@@ -6,21 +8,21 @@ use refusals::Refusal;
 use ticks::Length;
 
 // A figure, where there is one.
-#[derive(Drop)]
+#[derive(Clone, Copy)]
 pub enum Figure {
     Is(Length),
     No,
 }
 
 // Which of the two bounds gave a figure.
-#[derive(Drop)]
+#[derive(Clone, Copy)]
 pub enum Bound {
     Whole,
     Split,
 }
 
 // A row fits with a figure, misses its deadline, or stays open.
-#[derive(Drop)]
+#[derive(Clone, Copy)]
 pub enum Verdict {
     Fits(Bound, Length),
     Misses,
@@ -28,7 +30,7 @@ pub enum Verdict {
 }
 
 // The table fits if every row does, misses if some row misses, and is open otherwise.
-#[derive(Drop)]
+#[derive(Clone, Copy)]
 pub enum TableVerdict {
     Fits,
     Misses,

@@ -66,8 +66,8 @@ returns c =
       digit-left _ l.rest l.at l.bytes c.loop-test.false (omega arith) (omega arith) l.invariant.3,
     )
 
-pub build-spec : {M : Type 1} → statement M
-build-spec =
+pub build_spec : {M : Type 1} → statement M
+build_spec =
     tie.close
     (tie.spec
     invariant-loop

@@ -56,8 +56,8 @@ returns-2 c =
     let h : length w ≤ length s.args.out.now = omega (arith, c.before.before.before.before.if1.false, c.before.before.before.before.before.width.ensures) in
     ((final c).end ∙ sym (fitted-fits w s.args.out.now h), (final c).front ∙ sym (placed-fits w s.args.out.now h))
 
-pub write-number-spec : {M : Type 1} → statement M
-write-number-spec =
+pub write_number_spec : {M : Type 1} → statement M
+write_number_spec =
     tie.close
     (tie.spec
     width-requires

@@ -55,8 +55,8 @@ returns-2 c =
     let h : length w ≤ length s.args.out.now = omega (arith, c.before.before.before.before.if1.false) in
     ((final c).end ∙ sym (fitted-fits w s.args.out.now h), (final c).front ∙ sym (placed-fits w s.args.out.now h))
 
-pub write-word-spec : {M : Type 1} → statement M
-write-word-spec =
+pub write_word_spec : {M : Type 1} → statement M
+write_word_spec =
     tie.close
     (tie.spec
     returns

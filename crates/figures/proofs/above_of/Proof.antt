@@ -120,8 +120,8 @@ returns c =
     let e : l.i ≡ a.k = omega (arith, c.loop-test.false, l.invariant.0) in
     taken a.t1 a.k l.periods l.works c.before.before.requires.0 c.before.before.requires.1 (rw e at l.invariant.1)
 
-pub above-of-spec : {M : Type 1} → statement M
-above-of-spec =
+pub above_of_spec : {M : Type 1} → statement M
+above_of_spec =
     tie.close
     (tie.spec
     invariant-loop

@@ -86,8 +86,8 @@ returns-2 c =
     let q : c.before.if1.add ≡ more_of a.held a.period a.t * a.work = omega (arith, f.1, ap (λ n. n * a.work) z) in
     ahead-is _ _ a.held a.period a.work a.t p q
 
-pub count-on-spec : {M : Type 1} → statement M
-count-on-spec =
+pub count_on_spec : {M : Type 1} → statement M
+count_on_spec =
     tie.close
     (tie.spec
     add-upto

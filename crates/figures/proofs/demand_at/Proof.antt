@@ -135,8 +135,8 @@ returns c =
     let a = c.before.before.before.before.before.args in
     (halfway-end (rows_from a.periods.now a.works.now) a.k a.t l.i l.total l.until c.loop-test.false l.invariant.3, l.invariant.2)
 
-pub demand-at-spec : {M : Type 1} → statement M
-demand-at-spec =
+pub demand_at_spec : {M : Type 1} → statement M
+demand_at_spec =
     tie.close
     (tie.spec
     invariant-loop

@@ -189,8 +189,8 @@ returns-2 c =
     = λ i. record { verdict = v i; whole = w.0 i; split = q i; rounds = m i } in
     e ∙ sym (more-figures rows a.k k.right n)
 
-pub figures-at-spec : {M : Type 1} → statement M
-figures-at-spec =
+pub figures_at_spec : {M : Type 1} → statement M
+figures_at_spec =
     tie.close
     (tie.spec
     above-of-requires

@@ -66,8 +66,8 @@ returns c =
     let ts = s.args.row.times in
     omega (arith, l.invariant.3, sum-end (map ticks ts) l.i (omega (arith, l.invariant.1, c.loop-test.false)), own_is s.args.row s.requires)
 
-pub own-of-spec : {M : Type 1} → statement M
-own-of-spec =
+pub own_of_spec : {M : Type 1} → statement M
+own_of_spec =
     tie.close
     (tie.spec
     invariant-loop

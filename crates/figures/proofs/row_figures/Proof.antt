@@ -65,7 +65,7 @@ returns-4 c =
     ap RowIs (c.figures-at.ensures ∙ ap (λ (rows : ℕ → Row). figures_of rows (s.args.number - 1)) (rows_same s.args.t ok))
     ∙ sym (row-there s.args.t s.args.number ok c.before.before.before.before.if2.false c.before.before.if3.false)
 
-pub row-figures-spec : {M : Type 1} → statement M
-row-figures-spec =
+pub row_figures_spec : {M : Type 1} → statement M
+row_figures_spec =
     tie.close
     (tie.spec well-formed-requires returns returns-2 returns-3 figures-at-requires returns-4)

@@ -115,8 +115,8 @@ loop-again c =
       rw s at g,
     )
 
-pub solve-spec : {M : Type 1} → statement M
-solve-spec =
+pub solve_spec : {M : Type 1} → statement M
+solve_spec =
     tie.close
     (tie.spec
     invariant-loop

@@ -251,8 +251,8 @@ returns-2 c =
       omega (arith, l.invariant.0, l.invariant.2, c.before.before.count.ensures, (fit _ s.requires.2).few),
     )
 
-pub split-of-spec : {M : Type 1} → statement M
-split-of-spec =
+pub split_of_spec : {M : Type 1} → statement M
+split_of_spec =
     tie.close
     (tie.spec
     invariant-loop

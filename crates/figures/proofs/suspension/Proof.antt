@@ -31,6 +31,6 @@ element-copy-out-result c = search rules
 returns-2 : tie.Need-returns-2
 returns-2 c = one-before c.before.args.t1 c.before.args.j c.if1.false
 
-pub suspension-spec : {M : Type 1} → statement M
-suspension-spec =
+pub suspension_spec : {M : Type 1} → statement M
+suspension_spec =
     tie.close (tie.spec returns sub-result mul-result element-copy-out-result returns-2)

@@ -130,8 +130,8 @@ returns-2 c =
     = λ i. record { verdict = l.invariant.1 i; rows = l.invariant.2 i } in
     e ∙ table_done s.args.t l.k ok (omega (arith, l.invariant.0, c.loop-test.false))
 
-pub table-figures-spec : {M : Type 1} → statement M
-table-figures-spec =
+pub table_figures_spec : {M : Type 1} → statement M
+table_figures_spec =
     tie.close
     (tie.spec
     invariant-loop

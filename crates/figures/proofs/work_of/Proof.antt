@@ -74,8 +74,8 @@ returns c =
     let l = c.before.loop in
     omega (arith, l.invariant.5, work-end (used c.before.before.before.before.args.row.times) l.j (omega (arith, l.invariant.0, c.loop-test.false)))
 
-pub work-of-spec : {M : Type 1} → statement M
-work-of-spec =
+pub work_of_spec : {M : Type 1} → statement M
+work_of_spec =
     tie.close
     (tie.spec
     invariant-loop

@@ -97,8 +97,8 @@ returns-3 c =
     let l = c.before.before.before.before.before.before.before.before.before.before.loop in
     λ n e. counts n l.at _ e (omega (arith, kept c.before.before.before.before.before, l.invariant.0))
 
-pub read-whole-spec : {M : Type 1} → statement M
-read-whole-spec =
+pub read_whole_spec : {M : Type 1} → statement M
+read_whole_spec =
     tie.close
     (tie.spec
     invariant-loop

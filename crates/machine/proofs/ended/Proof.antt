@@ -60,8 +60,8 @@ returns-2 c =
     let e = c.plus2.ensures ∙ later-is _ _ z.requires.wait in
     simp (ne_eqb _ _ c.before.before.if1.false, e)
 
-pub ended-spec : {M : Type 1} → statement M
-ended-spec =
+pub ended_spec : {M : Type 1} → statement M
+ended_spec =
     tie.close
     (tie.spec
     add_left

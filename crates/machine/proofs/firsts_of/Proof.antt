@@ -79,8 +79,8 @@ returns c =
     let k : l.k ≡ z.args.ticks = omega arith in
     l.invariant.2 ∙ ap (firsts_after z.args.n z.args.plan.now) k
 
-pub firsts-of-spec : {M : Type 1} → statement M
-firsts-of-spec =
+pub firsts_of_spec : {M : Type 1} → statement M
+firsts_of_spec =
     tie.close
     (tie.spec
     invariant-loop

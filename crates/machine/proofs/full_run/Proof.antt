@@ -54,8 +54,8 @@ returns-3 c =
     = c.slots-of.ensures ∙ ap (slots_of t.len) (c.before.firsts-of.ensures ∙ ap (λ (plan : List (List ℕ)). firsts_after t.len plan n) c.before.before.before.plan-of.ensures) ∙ answers t (ok c.before.before.before.before.before) n in
     simp (ok c.before.before.before.before.before, le-ltb most_ticks n c.before.before.before.before.if2.false) (λ j. record { outcome = Ran; rows = rows j })
 
-pub full-run-spec : {M : Type 1} → statement M
-full-run-spec =
+pub full_run_spec : {M : Type 1} → statement M
+full_run_spec =
     tie.close
     (tie.spec
     well-formed-requires

@@ -75,8 +75,8 @@ returns c =
     = l.invariant.2 ∙ ap (λ k. map ticks (take k ts) ++ replicate (most_times + 3 - k) 0) j ∙ ap (λ k. map ticks k ++ (0 ∷ 0 ∷ 0 ∷ [])) (take_all most_times ts (omega arith)) in
     ap (λ k. set k (most_times + 2) c.before.before.before.args.row.period.0) a ∙ last_set (map ticks ts) c.before.before.before.args.row.period.0 (length-map ts ticks ∙ e)
 
-pub lane-of-spec : {M : Type 1} → statement M
-lane-of-spec =
+pub lane_of_spec : {M : Type 1} → statement M
+lane_of_spec =
     tie.close
     (tie.spec
     invariant-loop

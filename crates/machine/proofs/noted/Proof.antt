@@ -16,5 +16,5 @@ returns-3 : tie.Need-returns-3
 unfolding noted_of
 returns-3 c = simp (ne_eqb _ _ c.before.before.if1.false, ne_eqb _ _ c.if2.false)
 
-pub noted-spec : {M : Type 1} → statement M
-noted-spec = tie.close (tie.spec returns returns-2 returns-3)
+pub noted_spec : {M : Type 1} → statement M
+noted_spec = tie.close (tie.spec returns returns-2 returns-3)

@@ -63,8 +63,8 @@ returns : tie.Need-returns invariant-loop decreases-loop
 unfolding plan_of
 returns c = let l = c.before.loop in filled-all lane_of no_lane c.before.before.args.t1.rows most_rows l.i l.plan (rows-length c.before.before) (omega arith) l.invariant.2
 
-pub plan-of-spec : {M : Type 1} → statement M
-plan-of-spec =
+pub plan_of_spec : {M : Type 1} → statement M
+plan_of_spec =
     tie.close
     (tie.spec
     invariant-loop

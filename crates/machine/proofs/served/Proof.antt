@@ -34,5 +34,5 @@ returns-2 c =
     let z = c.before.before.before.before in
     simp (le-ltb _ _ c.before.before.if1.false) (c.ended.ensures ∙ ap (λ (i : Instant). ended_of i z.args.lane.now z.args.cell) (ends c.before))
 
-pub served-spec : {M : Type 1} → statement M
-served-spec = tie.close (tie.spec sub-t7 returns plus-requires ended-requires returns-2)
+pub served_spec : {M : Type 1} → statement M
+served_spec = tie.close (tie.spec sub-t7 returns plus-requires ended-requires returns-2)

@@ -12,5 +12,5 @@ returns-2 : tie.Need-returns-2
 unfolding completion_of
 returns-2 c = simp (ne_eqb _ _ c.if1.false)
 
-pub slot-of-spec : {M : Type 1} → statement M
-slot-of-spec = tie.close (tie.spec returns returns-2)
+pub slot_of_spec : {M : Type 1} → statement M
+slot_of_spec = tie.close (tie.spec returns returns-2)

@@ -69,8 +69,8 @@ returns c =
     let i : l.i ≡ z.args.n = omega arith in
     l.invariant.2 ∙ ap (λ (i : ℕ). map (shown z.args.t2) (below i) ++ replicate (most_rows - i) (slot_of none)) i
 
-pub slots-of-spec : {M : Type 1} → statement M
-slots-of-spec =
+pub slots_of_spec : {M : Type 1} → statement M
+slots_of_spec =
     tie.close
     (tie.spec
     invariant-loop

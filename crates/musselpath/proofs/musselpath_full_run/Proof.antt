@@ -38,8 +38,8 @@ returns-2 : tie.Need-returns-2
 unfolding run_answered run_left
 returns-2 c = rw (reading-refused c.before.before.before.before.before.before.before.args.text.now c.before.before.before.before.read.result _ c.before.before.before.before.read.ensures c.before.before.outcome.given.1) (c.pack.ensures, refl)
 
-pub musselpath-full-run-spec : {M : Type 1} → statement M
-musselpath-full-run-spec =
+pub musselpath_full_run_spec : {M : Type 1} → statement M
+musselpath_full_run_spec =
     tie.close
     (tie.spec
     read-requires

@@ -31,7 +31,7 @@ returns-2 c =
     let s = c.before.before.before.before.before.before.before.before.args in
     (refused-fitted (answer_text s.text.now) s.out.now _ (sym c.before.before.before.before.answer.ensures.0 ∙ c.enum_told.given.1), c.before.before.before.before.answer.ensures.1)
 
-pub musselpath-report-spec : {M : Type 1} → statement M
-musselpath-report-spec =
+pub musselpath_report_spec : {M : Type 1} → statement M
+musselpath_report_spec =
     tie.close
     (tie.spec answer-requires enum-known-len enum_told same_length returns same-length-2 returns-2)

@@ -36,8 +36,8 @@ add-result-2 c =
 returns : tie.Need-returns
 returns c = search rules
 
-pub pack-spec : {M : Type 1} → statement M
-pack-spec =
+pub pack_spec : {M : Type 1} → statement M
+pack_spec =
     tie.close
     (tie.spec
     number-requires

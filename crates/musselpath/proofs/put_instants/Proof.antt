@@ -71,8 +71,8 @@ returns c =
     let e : l.i ≡ s.args.table.len = le_antisymm l.invariant.0 c.loop-test.false in
     l.invariant.1.front ∙ ap (λ bs. over bs s.args.out.now) (numbers-are s.args.table s.args.ticks s.requires.0 s.requires.1 c.before.before.before.full-run.result l.i c.before.before.before.full-run.ensures (e ∙ len_is s.args.table s.requires.0))
 
-pub put-instants-spec : {M : Type 1} → statement M
-put-instants-spec =
+pub put_instants_spec : {M : Type 1} → statement M
+put_instants_spec =
     tie.close
     (tie.spec
     invariant-loop

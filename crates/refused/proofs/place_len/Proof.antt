@@ -73,8 +73,8 @@ returns-2 c =
       omega (arith, line-short c.before.before, field-short c),
     )
 
-pub place-len-spec : {M : Type 1} → statement M
-place-len-spec =
+pub place_len_spec : {M : Type 1} → statement M
+place_len_spec =
     tie.close
     (tie.spec
     number-requires

@@ -101,8 +101,8 @@ same_length c = search rules
 returns-2 : tie.Need-returns-2
 returns-2 c = ((put2 c).end, (put2 c).front)
 
-pub write-place-spec : {M : Type 1} → statement M
-write-place-spec =
+pub write_place_spec : {M : Type 1} → statement M
+write_place_spec =
     tie.close
     (tie.spec
     number-requires

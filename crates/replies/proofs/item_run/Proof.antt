@@ -30,8 +30,8 @@ returns-2 c =
     let t = c.before.before.before.ticks-of in
     rw (item-whole s.args.item.now t.result c.before.before.before.before.if1.false t.ensures) c.run_of.ensures
 
-pub item-run-spec : {M : Type 1} → statement M
-item-run-spec =
+pub item_run_spec : {M : Type 1} → statement M
+item_run_spec =
     tie.close
     (tie.spec
     returns

@@ -33,7 +33,7 @@ returns-2 c =
     let l = refused_line s.args.why in
     absurd (put-never-refused l s.args.out.now _ w.result s.requires w.ensures.0 w.ensures.1 _ c.enum_told.given.1)
 
-pub line-of-spec : {M : Type 1} → statement M
-line-of-spec =
+pub line_of_spec : {M : Type 1} → statement M
+line_of_spec =
     tie.close
     (tie.spec write-requires enum-known-len enum_told same_length returns same-length-2 returns-2)

@@ -33,8 +33,8 @@ returns-3 : tie.Need-returns-3
 returns-3 c =
     rw c.before.before.enum-told3.given.1 c.item-run.ensures
 
-pub reply-spec : {M : Type 1} → statement M
-reply-spec =
+pub reply_spec : {M : Type 1} → statement M
+reply_spec =
     tie.close
     (tie.spec
     enum_told

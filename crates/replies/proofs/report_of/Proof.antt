@@ -44,5 +44,5 @@ returns-2 c =
     let h = room c.before.before.before in
     absurd (put-never-refused t s.args.out.now _ w.result h w.ensures.0 w.ensures.1 _ c.enum_told.given.1)
 
-pub report-of-spec : {M : Type 1} → statement M
-report-of-spec = tie.close (tie.spec answer-requires enum-known-report-len enum_told returns returns-2)
+pub report_of_spec : {M : Type 1} → statement M
+report_of_spec = tie.close (tie.spec answer-requires enum-known-report-len enum_told returns returns-2)

@@ -72,7 +72,7 @@ returns-2 c =
     let q : c.line-of.new.1.0 ≡ over (run_answer (text_s s) (ticks_s s)) (buf_s s) = rw (← p.0, ← p.1) l.1 in
     replied (run_answer (text_s s) (ticks_s s)) (buf_s s) _ _ (room c.before.before.before.before.before.before) (l.0 ∙ ap length p.0, q)
 
-pub run-of-spec : {M : Type 1} → statement M
-run-of-spec =
+pub run_of_spec : {M : Type 1} → statement M
+run_of_spec =
     tie.close
     (tie.spec answer-requires enum-known-run-len enum-known-why line-of-requires returns returns-2)

@@ -34,7 +34,7 @@ returns-2 c =
     let p = written-whole s.args.table s.args.out.now s.requires.0 s.requires.1 in
     absurd (refused_none _ _ (sym c.enum_told.given.1 ∙ w.ensures.0 ∙ p.0))
 
-pub table-text-spec : {M : Type 1} → statement M
-table-text-spec =
+pub table_text_spec : {M : Type 1} → statement M
+table_text_spec =
     tie.close
     (tie.spec write-requires enum-known-len enum_told same_length returns same-length-2 returns-2)

@@ -54,8 +54,8 @@ returns-2 c =
     let e = text-refused s.args.text.now r.result _ r.ensures c.before.before.before.outcome.given.1 in
     replied (text_answer s.args.text.now) s.args.out.now _ _ (room s c.before.line-of-arg.given.0.1) (rw e c.line-of.ensures)
 
-pub text-of-spec : {M : Type 1} → statement M
-text-of-spec =
+pub text_of_spec : {M : Type 1} → statement M
+text_of_spec =
     tie.close
     (tie.spec
     read-requires

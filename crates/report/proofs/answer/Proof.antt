@@ -31,8 +31,8 @@ same-length-2 c = search rules
 returns-2 : tie.Need-returns-2
 returns-2 c = rw (read-refused c.before.before.before.before.before.before.before.before.before.before.args.text.now c.before.before.before.before.before.before.before.read.result _ c.before.before.before.before.before.before.before.read.ensures c.before.before.before.before.before.outcome.given.1) c.before.before.write.ensures
 
-pub answer-spec : {M : Type 1} → statement M
-answer-spec =
+pub answer_spec : {M : Type 1} → statement M
+answer_spec =
     tie.close
     (tie.spec
     read-requires

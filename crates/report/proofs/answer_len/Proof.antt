@@ -108,8 +108,8 @@ returns c =
 returns-2 : tie.Need-returns-2
 returns-2 c = search rules
 
-pub answer-len-spec : {M : Type 1} → statement M
-answer-len-spec =
+pub answer_len_spec : {M : Type 1} → statement M
+answer_len_spec =
     tie.close
     (tie.spec
     enum-known-answer

@@ -18,5 +18,5 @@ returns c = rw c.before.before.figure.given.1 c.width.ensures
 returns-2 : tie.Need-returns-2
 returns-2 c = search rules
 
-pub figure-len-spec : {M : Type 1} → statement M
-figure-len-spec = tie.close (tie.spec enum-known-figure width-requires enum_told returns returns-2)
+pub figure_len_spec : {M : Type 1} → statement M
+figure_len_spec = tie.close (tie.spec enum-known-figure width-requires enum_told returns returns-2)

@@ -21,6 +21,6 @@ returns-2 c = search rules
 returns-3 : tie.Need-returns-3
 returns-3 c = search rules
 
-pub figure-of-spec : {M : Type 1} → statement M
-figure-of-spec =
+pub figure_of_spec : {M : Type 1} → statement M
+figure_of_spec =
     tie.close (tie.spec enum-known-verdict enum_told enum-told-2 returns returns-2 returns-3)

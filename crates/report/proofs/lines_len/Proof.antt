@@ -84,8 +84,8 @@ returns c =
     let s = c.before.before.before.before in
     l.invariant.1 ∙ ap (λ k. length (lines_text s.args.table.rows s.args.figures.rows k)) (le_antisymm l.invariant.0 c.loop-test.false)
 
-pub lines-len-spec : {M : Type 1} → statement M
-lines-len-spec =
+pub lines_len_spec : {M : Type 1} → statement M
+lines_len_spec =
     tie.close
     (tie.spec
     invariant-loop

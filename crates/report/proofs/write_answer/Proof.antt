@@ -23,7 +23,7 @@ returns c = rw c.before.before.before.before.before.answer.given.1 c.before.befo
 returns-2 : tie.Need-returns-2
 returns-2 c = rw c.enum_told.given.1 (refl, sym (over-nil c.before.before.before.args.out.now))
 
-pub write-answer-spec : {M : Type 1} → statement M
-write-answer-spec =
+pub write_answer_spec : {M : Type 1} → statement M
+write_answer_spec =
     tie.close
     (tie.spec enum-known-answer write-row-requires enum_told same_length returns returns-2)

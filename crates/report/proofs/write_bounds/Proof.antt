@@ -107,8 +107,8 @@ same_length c = search rules
 returns : tie.Need-returns
 returns c = ((put3 c).end, (put3 c).front)
 
-pub write-bounds-spec : {M : Type 1} → statement M
-write-bounds-spec =
+pub write_bounds_spec : {M : Type 1} → statement M
+write_bounds_spec =
     tie.close
     (tie.spec
     write-figure-requires

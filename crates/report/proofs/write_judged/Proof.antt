@@ -135,8 +135,8 @@ same_length c = search rules
 returns : tie.Need-returns
 returns c = ((put3 c).end, (put3 c).front)
 
-pub write-judged-spec : {M : Type 1} → statement M
-write-judged-spec =
+pub write_judged_spec : {M : Type 1} → statement M
+write_judged_spec =
     tie.close
     (tie.spec
     name-len-requires

@@ -98,8 +98,8 @@ same_length c = (put3 c).kept
 returns : tie.Need-returns
 returns c = ((put3 c).end, (put3 c).front)
 
-pub write-last-spec : {M : Type 1} → statement M
-write-last-spec =
+pub write_last_spec : {M : Type 1} → statement M
+write_last_spec =
     tie.close
     (tie.spec
     slice-aggregate-copy

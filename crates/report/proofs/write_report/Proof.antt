@@ -131,8 +131,8 @@ returns-2 c =
     let d = buf_s c.before.before.before.before.before.before.before.before.before.before.before.before.before in
     (ap Bytes (put2 c).end ∙ sym (length_whole l d (room c.before.before.before.before.before.before.before.before)), (put2 c).front ∙ sym (placed-fits l d (room c.before.before.before.before.before.before.before.before)))
 
-pub write-report-spec : {M : Type 1} → statement M
-write-report-spec =
+pub write_report_spec : {M : Type 1} → statement M
+write_report_spec =
     tie.close
     (tie.spec
     table-figures-requires

@@ -98,8 +98,8 @@ same_length c = (put3 c).kept
 returns : tie.Need-returns
 returns c = ((put3 c).end, (put3 c).front)
 
-pub write-row-spec : {M : Type 1} → statement M
-write-row-spec =
+pub write_row_spec : {M : Type 1} → statement M
+write_row_spec =
     tie.close
     (tie.spec
     write-judged-requires

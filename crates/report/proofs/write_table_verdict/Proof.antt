@@ -63,8 +63,8 @@ same-length-4 c = search rules
 returns-4 : tie.Need-returns-4
 returns-4 c = rw c.before.before.before.before.before.enum-told4.given.1 c.before.before.write-word4.ensures
 
-pub write-table-verdict-spec : {M : Type 1} → statement M
-write-table-verdict-spec =
+pub write_table_verdict_spec : {M : Type 1} → statement M
+write_table_verdict_spec =
     tie.close
     (tie.spec
     enum_told

@@ -48,8 +48,8 @@ same-length-3 c = search rules
 returns-3 : tie.Need-returns-3
 returns-3 c = rw c.before.before.before.before.before.enum-told3.given.1 c.before.before.write-word3.ensures
 
-pub write-verdict-spec : {M : Type 1} → statement M
-write-verdict-spec =
+pub write_verdict_spec : {M : Type 1} → statement M
+write_verdict_spec =
     tie.close
     (tie.spec
     enum_told

@@ -18,5 +18,5 @@ returns-4 c = sym (byte-between _ c.before.before.before.if1.false c.before.if3.
 returns-5 : tie.Need-returns-5
 returns-5 c = sym (byte-letter _ c.before.before.before.if1.false c.if4.false)
 
-pub name-byte-spec : {M : Type 1} → statement M
-name-byte-spec = tie.close (tie.spec returns returns-2 returns-3 returns-4 returns-5)
+pub name_byte_spec : {M : Type 1} → statement M
+name_byte_spec = tie.close (tie.spec returns returns-2 returns-3 returns-4 returns-5)

@@ -66,8 +66,8 @@ returns-2 c =
     let a = c.before.before.args in
     sym (l.invariant.2 ∙ all_end unused a.t1 l.i (omega (arith, l.invariant.1, c.loop-test.false)))
 
-pub rest-unused-spec : {M : Type 1} → statement M
-rest-unused-spec =
+pub rest_unused_spec : {M : Type 1} → statement M
+rest_unused_spec =
     tie.close
     (tie.spec
     invariant-loop

@@ -10,5 +10,5 @@ returns : tie.Need-returns
 unfolding right_count
 returns c = c.both.ensures
 
-pub right-count-spec : {M : Type 1} → statement M
-right-count-spec = tie.close (tie.spec both-requires returns)
+pub right_count_spec : {M : Type 1} → statement M
+right_count_spec = tie.close (tie.spec both-requires returns)

@@ -59,8 +59,8 @@ returns-4 c =
     let l = c.before.loop in
     sym (l.invariant.1 ∙ all_end name_byte _ l.i c.loop-test.false)
 
-pub right-name-spec : {M : Type 1} → statement M
-right-name-spec =
+pub right_name_spec : {M : Type 1} → statement M
+right_name_spec =
     tie.close
     (tie.spec
     invariant-loop

@@ -10,5 +10,5 @@ returns c = sym (number-zero _ c.if1.true)
 returns-2 : tie.Need-returns-2
 returns-2 c = sym (number-some _ c.before.if1.false)
 
-pub right-number-spec : {M : Type 1} → statement M
-right-number-spec = tie.close (tie.spec returns returns-2)
+pub right_number_spec : {M : Type 1} → statement M
+right_number_spec = tie.close (tie.spec returns returns-2)

@@ -128,8 +128,8 @@ returns c =
     c.before.before.before.before.before.before.before.before.before.both5.ensures
     front c.before.before.before.before.before.before.both6.ensures c.before.before.zero-times.ensures c.before.both7.ensures back
 
-pub right-row-spec : {M : Type 1} → statement M
-right-row-spec =
+pub right_row_spec : {M : Type 1} → statement M
+right_row_spec =
     tie.close
     (tie.spec
     name-len-requires

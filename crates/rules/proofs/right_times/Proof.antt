@@ -79,8 +79,8 @@ returns-2 c =
     let a = c.before.before.args in
     sym (l.invariant.2 ∙ all_end right_number (take a.count (map ticks a.t1)) l.i (omega (arith, l.invariant.1, c.loop-test.false)))
 
-pub right-times-spec : {M : Type 1} → statement M
-right-times-spec =
+pub right_times_spec : {M : Type 1} → statement M
+right_times_spec =
     tie.close
     (tie.spec
     invariant-loop

@@ -102,8 +102,8 @@ returns-4 c =
     let a = c.before.before.args in
     sym (l.invariant.3 ∙ rows-test-end a.t1 (take l.i a.t1) a.n l.i c.loop-test.false (omega (arith, l.invariant.1, c.before.before.requires)))
 
-pub rows-right-spec : {M : Type 1} → statement M
-rows-right-spec =
+pub rows_right_spec : {M : Type 1} → statement M
+rows_right_spec =
     tie.close
     (tie.spec
     invariant-loop

@@ -40,8 +40,8 @@ returns c =
     (c.before.before.before.before.both.ensures
     ∙ ap (λ (z : Bool). eqb a.deadline.0 0 and z) c.before.before.before.before.before.zero-times.ensures))
 
-pub unused-row-spec : {M : Type 1} → statement M
-unused-row-spec =
+pub unused_row_spec : {M : Type 1} → statement M
+unused_row_spec =
     tie.close
     (tie.spec
     zero-times-requires

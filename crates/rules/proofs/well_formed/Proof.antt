@@ -55,7 +55,7 @@ returns-4 c =
     c.rest-unused.ensures ∙ sym (and-true _ e)
     ∙ tests-are s.args.table (rows-length s) (sized s) c.before.before.before.before.if1.false c.before.before.before.if2.false
 
-pub well-formed-spec : {M : Type 1} → statement M
-well-formed-spec =
+pub well_formed_spec : {M : Type 1} → statement M
+well_formed_spec =
     tie.close
     (tie.spec returns returns-2 rows-right-requires returns-3 rest-unused-requires returns-4)

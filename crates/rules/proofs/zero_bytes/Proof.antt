@@ -43,8 +43,8 @@ returns-2 c =
     let l = c.before.loop in
     sym (l.invariant.1 ∙ all_end is_zero _ l.i c.loop-test.false)
 
-pub zero-bytes-spec : {M : Type 1} → statement M
-zero-bytes-spec =
+pub zero_bytes_spec : {M : Type 1} → statement M
+zero_bytes_spec =
     tie.close
     (tie.spec
     invariant-loop

@@ -63,8 +63,8 @@ returns-2 c =
     let ts = c.before.before.args.t1 in
     sym (l.invariant.2 ∙ all_end is_zero (map ticks ts) l.i (omega (arith, l.invariant.1, c.loop-test.false)))
 
-pub zero-times-spec : {M : Type 1} → statement M
-zero-times-spec =
+pub zero_times_spec : {M : Type 1} → statement M
+zero_times_spec =
     tie.close
     (tie.spec
     invariant-loop

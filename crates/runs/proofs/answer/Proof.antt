@@ -36,8 +36,8 @@ returns-2 c =
     let s = c.before.before.before.before.before.before in
     rw (reading-refused s.args.text.now r.result _ r.ensures c.before.outcome.given.1) (refl, refl)
 
-pub answer-spec : {M : Type 1} → statement M
-answer-spec =
+pub answer_spec : {M : Type 1} → statement M
+answer_spec =
     tie.close
     (tie.spec
     read-requires

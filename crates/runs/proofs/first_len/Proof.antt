@@ -18,5 +18,5 @@ returns c = rw c.before.before.first.given.1 c.width.ensures
 returns-2 : tie.Need-returns-2
 returns-2 c = search rules
 
-pub first-len-spec : {M : Type 1} → statement M
-first-len-spec = tie.close (tie.spec enum-known-first width-requires enum_told returns returns-2)
+pub first_len_spec : {M : Type 1} → statement M
+first_len_spec = tie.close (tie.spec enum-known-first width-requires enum_told returns returns-2)

@@ -40,7 +40,7 @@ add-result-3 c = omega (arith, whole_length c.before.before, c.before.name-len.e
 returns : tie.Need-returns
 returns c = omega (arith, two_fields (name_s c.before.before) (first_s c.before.before), c.before.name-len.ensures, c.first-len.ensures)
 
-pub row-len-spec : {M : Type 1} → statement M
-row-len-spec =
+pub row_len_spec : {M : Type 1} → statement M
+row_len_spec =
     tie.close
     (tie.spec name-len-requires add-result first-len-requires add-result-2 add-result-3 returns)

@@ -30,8 +30,8 @@ same-length-2 c = search rules
 returns-2 : tie.Need-returns-2
 returns-2 c = rw c.before.before.before.before.before.enum_told.given.1 c.before.before.write_word.ensures
 
-pub write-first-spec : {M : Type 1} → statement M
-write-first-spec =
+pub write_first_spec : {M : Type 1} → statement M
+write_first_spec =
     tie.close
     (tie.spec
     enum-known-first

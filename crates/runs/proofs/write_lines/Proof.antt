@@ -103,8 +103,8 @@ returns c =
     let p = rw e at l.invariant.1 in
     (p.end, p.front)
 
-pub write-lines-spec : {M : Type 1} → statement M
-write-lines-spec =
+pub write_lines_spec : {M : Type 1} → statement M
+write_lines_spec =
     tie.close
     (tie.spec
     invariant-loop

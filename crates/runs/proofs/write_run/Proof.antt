@@ -89,8 +89,8 @@ returns-3 c =
       w.1 ∙ ap (λ (x : List ℕ). over x d) e ∙ sym (p.1 ∙ placed-fits l d h),
     )
 
-pub write-run-spec : {M : Type 1} → statement M
-write-run-spec =
+pub write_run_spec : {M : Type 1} → statement M
+write_run_spec =
     tie.close
     (tie.spec
     full-run-requires

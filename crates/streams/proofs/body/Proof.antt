@@ -34,8 +34,8 @@ same-length-3 c = search rules
 returns-3 : tie.Need-returns-3
 returns-3 c = λ n e. absurd (failed-none n e)
 
-pub body-spec : {M : Type 1} → statement M
-body-spec =
+pub body_spec : {M : Type 1} → statement M
+body_spec =
     tie.close
     (tie.spec
     read-whole-requires

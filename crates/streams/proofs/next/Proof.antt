@@ -74,8 +74,8 @@ returns-4 c =
 returns-5 : tie.Need-returns-5
 returns-5 c = λ n e. absurd (failed-none n e)
 
-pub next-spec : {M : Type 1} → statement M
-next-spec =
+pub next_spec : {M : Type 1} → statement M
+next_spec =
     tie.close
     (tie.spec
     slice-aggregate-read-whole

@@ -71,8 +71,8 @@ returns-3 c =
     let a = c.before.before.args in
     sym (l.invariant.2 ∙ name-in-end a.name a.t1 a.n l.i (omega (arith, l.invariant.1, c.loop-test.false)))
 
-pub named-spec : {M : Type 1} → statement M
-named-spec =
+pub named_spec : {M : Type 1} → statement M
+named_spec =
     tie.close
     (tie.spec
     invariant-loop

@@ -61,8 +61,8 @@ returns-2 c =
     let a = c.before.before.args in
     sym (l.invariant.3 ∙ same_end a.t1 a.t2 l.i (omega (arith, l.invariant.1, c.loop-test.false)) (omega (arith, l.invariant.2, c.loop-test.false)))
 
-pub same-name-spec : {M : Type 1} → statement M
-same-name-spec =
+pub same_name_spec : {M : Type 1} → statement M
+same_name_spec =
     tie.close
     (tie.spec
     invariant-loop

@@ -41,8 +41,8 @@ loop-again c =
 returns : tie.Need-returns invariant-loop decreases-loop
 returns c = omega (arith, fields-end c.before.before.args.line.now c.before.loop.i c.loop-test.false)
 
-pub count-fields-spec : {M : Type 1} → statement M
-count-fields-spec =
+pub count_fields_spec : {M : Type 1} → statement M
+count_fields_spec =
     tie.close
     (tie.spec
     invariant-loop

@@ -118,8 +118,8 @@ add-result c = omega (arith, measured c, short c.before.before.before.before.bef
 returns : tie.Need-returns invariant-loop decreases-loop
 returns c = measured c
 
-pub line-len-spec : {M : Type 1} → statement M
-line-len-spec =
+pub line_len_spec : {M : Type 1} → statement M
+line_len_spec =
     tie.close
     (tie.spec
     invariant-loop

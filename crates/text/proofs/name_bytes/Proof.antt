@@ -19,5 +19,5 @@ returns c =
     let x = c.before.before.before.before.args.field.now in
     c.before.copy.ensures.1 ∙ copied x (replicate longest_name 0) _ refl ∙ over_zeros longest_name x
 
-pub name-bytes-spec : {M : Type 1} → statement M
-name-bytes-spec = tie.close (tie.spec slice-aggregate-copy copy-requires returns)
+pub name_bytes_spec : {M : Type 1} → statement M
+name_bytes_spec = tie.close (tie.spec slice-aggregate-copy copy-requires returns)

@@ -22,5 +22,5 @@ returns-2 : tie.Need-returns-2
 unfolding right_fields
 returns-2 c = c.right-count.ensures
 
-pub right-fields-spec : {M : Type 1} → statement M
-right-fields-spec = tie.close (tie.spec returns right-count-requires returns-2)
+pub right_fields_spec : {M : Type 1} → statement M
+right_fields_spec = tie.close (tie.spec returns right-count-requires returns-2)

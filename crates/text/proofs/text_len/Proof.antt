@@ -64,8 +64,8 @@ returns c =
     let e = le_antisymm l.invariant.0 c.loop-test.false in
     l.invariant.1 ∙ ap (λ k. length (lines_text s.args.table.rows k)) e ∙ ap length (lines_are s.args.table s.requires)
 
-pub text-len-spec : {M : Type 1} → statement M
-text-len-spec =
+pub text_len_spec : {M : Type 1} → statement M
+text_len_spec =
     tie.close
     (tie.spec
     invariant-loop

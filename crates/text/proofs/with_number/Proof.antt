@@ -32,7 +32,7 @@ returns-3 c =
     let s = c.before.before in
     value-time s.args.row s.args.n s.requires.0 s.args.f _ c.before.if1.false c.if2.false (omega arith) (omega arith)
 
-pub with-number-spec : {M : Type 1} → statement M
-with-number-spec =
+pub with_number_spec : {M : Type 1} → statement M
+with_number_spec =
     tie.close
     (tie.spec returns returns-2 sub-i sub-i-2 mul-length element-set-from-length returns-3)

@@ -208,8 +208,8 @@ same_length c = length-set (buf4 c) (at4 c) _ ∙ (put4 c).kept
 returns : tie.Need-returns
 returns c = ((put5 c).end, (put5 c).front)
 
-pub write-line-spec : {M : Type 1} → statement M
-write-line-spec =
+pub write_line_spec : {M : Type 1} → statement M
+write_line_spec =
     tie.close
     (tie.spec
     name-len-requires

@@ -93,8 +93,8 @@ returns c =
     let p = rw (← whole s) at (rw e at l.invariant.1) in
     (p.end, p.front)
 
-pub write-times-spec : {M : Type 1} → statement M
-write-times-spec =
+pub write_times_spec : {M : Type 1} → statement M
+write_times_spec =
     tie.close
     (tie.spec
     invariant-loop

@@ -39,8 +39,8 @@ loop-again c = search rules
 returns : tie.Need-returns invariant-loop decreases-loop
 returns c = search rules
 
-pub name-spec : {M : Type 1} → statement M
-name-spec =
+pub name_spec : {M : Type 1} → statement M
+name_spec =
     tie.close
     (tie.spec
     invariant-loop

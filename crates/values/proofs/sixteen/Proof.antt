@@ -54,8 +54,8 @@ loop-again c = search rules
 returns : tie.Need-returns invariant-loop decreases-loop
 returns c = search rules
 
-pub sixteen-spec : {M : Type 1} → statement M
-sixteen-spec =
+pub sixteen_spec : {M : Type 1} → statement M
+sixteen_spec =
     tie.close
     (tie.spec
     invariant-loop

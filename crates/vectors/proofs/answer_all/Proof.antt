@@ -35,8 +35,8 @@ stop-requires c κs = search rules
 returns-2 : tie.Need-returns-2 invariant-loop decreases-loop
 returns-2 c = omega arith
 
-pub answer-all-spec : {M : Type 1} → statement M
-answer-all-spec =
+pub answer_all_spec : {M : Type 1} → statement M
+answer_all_spec =
     tie.close
     (tie.spec
     invariant-loop

@@ -45,8 +45,8 @@ returns-3 c = search rules
 returns-4 : tie.Need-returns-4
 returns-4 c = search rules
 
-pub answer-next-spec : {M : Type 1} → statement M
-answer-next-spec =
+pub answer_next_spec : {M : Type 1} → statement M
+answer_next_spec =
     tie.close
     (tie.spec
     slice-aggregate-next

@@ -18,5 +18,5 @@ returns-2 c = rw (c.before.before.before.before.bound.given.1, le-leb _ _ c.if1.
 returns-3 : tie.Need-returns-3
 returns-3 c = rw (c.before.before.before.before.bound.given.1, lt-leb _ _ c.if1.false)
 
-pub at-most-spec : {M : Type 1} → statement M
-at-most-spec = tie.close (tie.spec enum_told enum-known-bound returns returns-2 returns-3)
+pub at_most_spec : {M : Type 1} → statement M
+at_most_spec = tie.close (tie.spec enum_told enum-known-bound returns returns-2 returns-3)

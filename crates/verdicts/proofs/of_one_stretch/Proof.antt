@@ -14,5 +14,5 @@ returns c = search rules
 returns-2 : tie.Need-returns-2
 returns-2 c = rw c.before.whole.given.1
 
-pub of-one-stretch-spec : {M : Type 1} → statement M
-of-one-stretch-spec = tie.close (tie.spec enum_told enum-known-whole returns returns-2)
+pub of_one_stretch_spec : {M : Type 1} → statement M
+of_one_stretch_spec = tie.close (tie.spec enum_told enum-known-whole returns returns-2)

@@ -36,8 +36,8 @@ returns-4 c = rw (c.before.before.before.before.before.before.before.whole.given
 returns-5 : tie.Need-returns-5
 returns-5 c = rw (c.before.before.before.before.before.before.before.whole.given.1, c.before.before.before.before.split2.given.1, lt-leb _ _ c.if1.false)
 
-pub of-waiting-spec : {M : Type 1} → statement M
-of-waiting-spec =
+pub of_waiting_spec : {M : Type 1} → statement M
+of_waiting_spec =
     tie.close
     (tie.spec
     enum_told

@@ -91,8 +91,8 @@ returns c =
     let end = c.plus.ensures ∙ later-is _ _ z.requires.later in
     λ j. record { now = end j; ran = r j; cells = cells j }
 
-pub tick-spec : {M : Type 1} → statement M
-tick-spec =
+pub tick_spec : {M : Type 1} → statement M
+tick_spec =
     tie.close
     (tie.spec
     invariant-loop

@@ -45,8 +45,8 @@ returns-2 c =
     let l = c.before.loop in
     omega (arith, up_to-end 0 c.before.before.before.args.self.name l.len (omega (arith, l.invariant.1)))
 
-pub name-len-spec : {M : Type 1} → statement M
-name-len-spec =
+pub name_len_spec : {M : Type 1} → statement M
+name_len_spec =
     tie.close
     (tie.spec
     invariant-loop

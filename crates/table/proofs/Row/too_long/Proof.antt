@@ -69,8 +69,8 @@ returns-2 c =
     let h : sum (map ticks ts) ≤ d = omega (arith, l.invariant.2, sum-end (map ticks ts) l.i (omega (arith, l.invariant.1))) in
     sym (le-ltb d (sum (map ticks ts)) h)
 
-pub too-long-spec : {M : Type 1} → statement M
-too-long-spec =
+pub too_long_spec : {M : Type 1} → statement M
+too_long_spec =
     tie.close
     (tie.spec
     invariant-loop

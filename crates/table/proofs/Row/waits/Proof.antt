@@ -12,5 +12,5 @@ returns : tie.Need-returns
 unfolding waits
 returns c = ap (ltb 1) c.count.ensures
 
-pub waits-spec : {M : Type 1} → statement M
-waits-spec = tie.close (tie.spec count-requires returns)
+pub waits_spec : {M : Type 1} → statement M
+waits_spec = tie.close (tie.spec count-requires returns)

@@ -10,5 +10,5 @@ empty-requires c κs = search rules
 returns : tie.Need-returns
 returns c = λ i. record { rows = replicate most_rows (c.empty.ensures i); len = 0 }
 
-pub empty-spec : {M : Type 1} → statement M
-empty-spec = tie.close (tie.spec empty-requires returns)
+pub empty_spec : {M : Type 1} → statement M
+empty_spec = tie.close (tie.spec empty-requires returns)

@@ -8,5 +8,5 @@ sum-requires c κs = search rules
 returns : tie.Need-returns
 returns c = λ i. record { 0 = c.sum.ensures i }
 
-pub plus-spec : {M : Type 1} → statement M
-plus-spec = tie.close (tie.spec sum-requires returns)
+pub plus_spec : {M : Type 1} → statement M
+plus_spec = tie.close (tie.spec sum-requires returns)

@@ -8,5 +8,5 @@ less-requires c κs = search rules
 returns : tie.Need-returns
 returns c = λ i. record { 0 = c.less.ensures i }
 
-pub since-spec : {M : Type 1} → statement M
-since-spec = tie.close (tie.spec less-requires returns)
+pub since_spec : {M : Type 1} → statement M
+since_spec = tie.close (tie.spec less-requires returns)
