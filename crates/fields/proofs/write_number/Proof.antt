@@ -13,47 +13,47 @@ use Rattle.fields.proofs.write_number.Statement.{statement}
 use Rattle.fields.proofs.write_number.Tie as tie
 
 -- the buffer after the tab and the digits
-final : (c : tie.After-slice-known2)
-    → Put (tab ∷ digits c.before.before.before.before.before.before.before.args.n) c.before.before.before.before.before.before.before.args.out.now (spliced (set c.before.before.before.before.before.before.before.args.out.now 0 tab) 1 c.before.before.write.new.1.0) (1 + c.before.before.write.result)
+final : (c : tie.After-slice_known-2-1)
+    → Put (tab ∷ digits c.before.before.before.before.before.before.before.args.n) c.before.before.before.before.before.before.before.args.out.now (spliced (set c.before.before.before.before.before.before.before.args.out.now 0 tab) 1 c.before.before.write.new.out) (1 + c.before.before.write.result)
 final c =
     let s = c.before.before.before.before.before.before.before in
-    put-fitted (digits s.args.n) _ _ (put_first s.args.out.now tab (omega (arith, c.before.before.before.before.if1.false))) (omega (arith, c.before.before.before.before.if1.false, c.before.before.before.before.before.width.ensures)) c.before.before.write.ensures
+    put-fitted (digits s.args.n) _ _ (put_first s.args.out.now tab (omega (arith, c.before.before.before.before.if-out-width.false))) (omega (arith, c.before.before.before.before.if-out-width.false, c.before.before.before.before.before.width.ensures)) c.before.before.write.ensures
 
 width-requires : tie.Need-width-requires
 width-requires c κs = search rules
 
-returns : tie.Need-returns
+returns : tie.Need-returns-then-out-width
 returns c =
     let s = c.before.before.before in
     let w = tab ∷ digits s.args.n in
-    (sym (fitted_short w s.args.out.now (omega (arith, c.if1.true, c.before.width.ensures))), sym (placed-short w s.args.out.now (omega (arith, c.if1.true, c.before.width.ensures))))
+    (sym (fitted_short w s.args.out.now (omega (arith, c.if-out-width.true, c.before.width.ensures))), sym (placed-short w s.args.out.now (omega (arith, c.if-out-width.true, c.before.width.ensures))))
 
-slice-write-out : tie.Need-slice-write-out
+slice-write-out : tie.Need-bounds-out-0
 slice-write-out c = search rules
 
-sub-write : tie.Need-overflow-sub-write
-sub-write c = simp length-set (omega (arith, c.if1.false))
+sub-write : tie.Need-slice_bounds-write-count
+sub-write c = simp length-set (omega (arith, c.if-out-width.false))
 
-part-write-start : tie.Need-slice-bounds-write-start
-part-write-start c = simp length-set (omega (arith, c.if1.false))
+part-write-start : tie.Need-slice_bounds-write-start
+part-write-start c = simp length-set (omega (arith, c.if-out-width.false))
 
-part-write-end : tie.Need-slice-bounds-write-end
+part-write-end : tie.Need-slice_bounds-write-end
 part-write-end c = search rules
 
 write-requires : tie.Need-write-requires
 write-requires c κs = search rules
 
-add-result : tie.Need-overflow-add-result
-add-result c = omega (arith, (final c).end, c.before.before.before.before.if1.false, c.before.before.before.before.before.width.ensures, c.before.before.before.before.before.before.before.well-formed)
+add-result : tie.Need-overflow_add-result
+add-result c = omega (arith, (final c).end, c.before.before.before.before.if-out-width.false, c.before.before.before.before.before.width.ensures, c.before.before.before.before.before.before.before.well_formed)
 
-same_length : tie.Need-same-length
+same_length : tie.Need-shape_of-out
 same_length c = (final c).kept
 
-returns-2 : tie.Need-returns-2
+returns-2 : tie.Need-returns
 returns-2 c =
     let s = c.before.before.before.before.before.before.before in
     let w = tab ∷ digits s.args.n in
-    let h : length w ≤ length s.args.out.now = omega (arith, c.before.before.before.before.if1.false, c.before.before.before.before.before.width.ensures) in
+    let h : length w ≤ length s.args.out.now = omega (arith, c.before.before.before.before.if-out-width.false, c.before.before.before.before.before.width.ensures) in
     ((final c).end ∙ sym (fitted-fits w s.args.out.now h), (final c).front ∙ sym (placed-fits w s.args.out.now h))
 
 pub write_number_spec : {M : Type 1} → statement M

@@ -12,47 +12,47 @@ use Rattle.fields.proofs.write_word.Statement.{statement}
 use Rattle.fields.proofs.write_word.Tie as tie
 
 -- the buffer after the tab and the word
-final : (c : tie.After-slice-known2)
-    → Put (tab ∷ c.before.before.before.before.before.before.before.args.word.now) c.before.before.before.before.before.before.before.args.out.now (spliced (set c.before.before.before.before.before.before.before.args.out.now 0 tab) 1 c.before.before.copy.new.1.0) (1 + c.before.before.copy.result)
+final : (c : tie.After-slice_known-2-1)
+    → Put (tab ∷ c.before.before.before.before.before.before.before.args.word.now) c.before.before.before.before.before.before.before.args.out.now (spliced (set c.before.before.before.before.before.before.before.args.out.now 0 tab) 1 c.before.before.copy.new.to) (1 + c.before.before.copy.result)
 final c =
     let s = c.before.before.before.before.before.before.before in
     let w = s.args.word.now in
-    put-part w _ _ (put_first s.args.out.now tab (omega arith)) (omega (arith, c.before.before.before.before.if1.false)) (c.before.before.copy.ensures.0, c.before.before.copy.ensures.1 ∙ copied w _ (length w) refl)
+    put-part w _ _ (put_first s.args.out.now tab (omega arith)) (omega (arith, c.before.before.before.before.if-out-word.false)) (c.before.before.copy.ensures.0, c.before.before.copy.ensures.1 ∙ copied w _ (length w) refl)
 
-returns : tie.Need-returns
+returns : tie.Need-returns-then-out-word
 returns c =
     let s = c.before.before.before in
     let w = tab ∷ s.args.word.now in
-    (sym (fitted_short w s.args.out.now (omega (arith, c.if1.true))), sym (placed-short w s.args.out.now (omega (arith, c.if1.true))))
+    (sym (fitted_short w s.args.out.now (omega (arith, c.if-out-word.true))), sym (placed-short w s.args.out.now (omega (arith, c.if-out-word.true))))
 
-slice-write-out : tie.Need-slice-write-out
+slice-write-out : tie.Need-bounds-out-0
 slice-write-out c = search rules
 
-sub-copy : tie.Need-overflow-sub-copy
-sub-copy c = simp length-set (omega (arith, c.if1.false))
+sub-copy : tie.Need-slice_bounds-copy-count
+sub-copy c = simp length-set (omega (arith, c.if-out-word.false))
 
-part-copy-start : tie.Need-slice-bounds-copy-start
-part-copy-start c = simp length-set (omega (arith, c.if1.false))
+part-copy-start : tie.Need-slice_bounds-copy-start
+part-copy-start c = simp length-set (omega (arith, c.if-out-word.false))
 
-part-copy-end : tie.Need-slice-bounds-copy-end
+part-copy-end : tie.Need-slice_bounds-copy-end
 part-copy-end c = search rules
 
 copy-requires : tie.Need-copy-requires
 copy-requires c κs =
     let s = c.before.before.before.before in
-    put-room (length s.args.word.now) (put_first s.args.out.now tab (omega (arith, c.before.if1.false))) (omega (arith, c.before.if1.false))
+    put-room (length s.args.word.now) (put_first s.args.out.now tab (omega (arith, c.before.if-out-word.false))) (omega (arith, c.before.if-out-word.false))
 
-add-result : tie.Need-overflow-add-result
-add-result c = omega (arith, (final c).end, c.before.before.before.before.if1.false, c.before.before.before.before.before.before.before.well-formed)
+add-result : tie.Need-overflow_add-result
+add-result c = omega (arith, (final c).end, c.before.before.before.before.if-out-word.false, c.before.before.before.before.before.before.before.well_formed)
 
-same_length : tie.Need-same-length
+same_length : tie.Need-shape_of-out
 same_length c = (final c).kept
 
-returns-2 : tie.Need-returns-2
+returns-2 : tie.Need-returns
 returns-2 c =
     let s = c.before.before.before.before.before.before.before in
     let w = tab ∷ s.args.word.now in
-    let h : length w ≤ length s.args.out.now = omega (arith, c.before.before.before.before.if1.false) in
+    let h : length w ≤ length s.args.out.now = omega (arith, c.before.before.before.before.if-out-word.false) in
     ((final c).end ∙ sym (fitted-fits w s.args.out.now h), (final c).front ∙ sym (placed-fits w s.args.out.now h))
 
 pub write_word_spec : {M : Type 1} → statement M

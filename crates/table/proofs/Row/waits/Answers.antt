@@ -1,0 +1,9 @@
+use lib.Dec.{ltb}
+use mathlib.Core.Path.{ap}
+use Rattle.table.specs.Paper.{waits}
+use borrow.Author.Rules.{rules}
+use Rattle.table.proofs.Row.waits.Goals as goal
+
+pub returns : goal.returns
+unfolding waits
+returns c = ap (ltb 1) c.count.ensures

@@ -1,0 +1,19 @@
+-- `named` meets its contract: the rows that are left decide.
+use mathlib.Core.Path.{◌≡◌, refl, sym, ◌∙◌}
+use mathlib.Core.Bool.{true, false}
+use Prim.Native.Nat.{◌-◌, ◌≤◌}
+use native.Mathlib.Omega.{arith}
+use borrow.Author.Rules.{rules}
+use lib.ListN.{length, get_or, take, drop}
+use Rattle.words.specs.Lists.{same}
+use Rattle.words.proofs.Choice.{or-true, or-false}
+use Rattle.table.specs.Limits.{most_rows}
+use Rattle.table.specs.Value.{no_value, name_in}
+use Rattle.table.proofs.Rows.{name-in-at, name-in-end}
+use Rattle.table.proofs.named.Given as goal
+
+abbrev pub invariant-loop-i : goal.invariant-loop-i
+invariant-loop-i l = (l.i ≤ most_rows) × (length l.rows ≡ most_rows) × (name_in l.name (take l.n l.rows) ≡ name_in l.name (drop l.i (take l.n l.rows)))
+
+abbrev pub decreases-loop-i : goal.decreases-loop-i
+decreases-loop-i l = most_rows - l.i

@@ -1,0 +1,5 @@
+use borrow.Author.Rules.{rules}
+use Rattle.ticks.proofs.Instant.plus.Goals as goal
+
+pub returns : goal.returns
+returns c = λ i. record { 0 = c.sum.ensures i }
