@@ -1,0 +1,81 @@
+-- `right_row` meets its contract: its tests joined are `right_value`.
+use mathlib.Core.Path.{◌≡◌, sym, ap, ◌∙◌}
+use Prim.Native.Nat.{ℕ, ◌≤◌}
+use native.Mathlib.Omega.{arith}
+use lib.ListN.{length, length-map}
+use lib.Seq.{length-take-le}
+use Rattle.table.specs.Limits.{longest_name, most_times}
+use Rattle.table.specs.Paper.{right_name}
+use Rattle.table.specs.Value.{row_of}
+use Rattle.table.proofs.Rows.{name-within, times-within, name-front}
+use Rattle.rules.proofs.Rows.{name_back, row-tests}
+use borrow.Author.Rules.{rules}
+use Rattle.rules.proofs.right_row.Goals.{Start}
+use Rattle.rules.proofs.right_row.Goals as goal
+
+-- the row's arrays have their lengths, so the name and the times lie within them
+name-size : (s : Start) → length s.args.row.name ≡ longest_name
+name-size s = search rules
+
+times-size : (s : Start) → length s.args.row.times ≡ most_times
+times-size s = s.well_formed.0.1.1.1.1.1.0.1.0.1
+
+name-fits : (s : Start) (n : ℕ) → n ≡ length (row_of s.args.row).name → n ≤ longest_name
+name-fits s n e = omega (arith, name-within s.args.row (name-size s))
+
+times-fit : (s : Start) (n : ℕ) → n ≡ length (row_of s.args.row).times → n ≤ most_times
+times-fit s n e = omega (arith, times-within s.args.row (times-size s))
+
+pub right_times-requires : goal.right_times-requires
+right_times-requires c = times-fit (goal.at.right_times-requires c).Start _ c.count-count.ensures
+
+pub slice_bounds-name-end : goal.slice_bounds-name-end
+slice_bounds-name-end c =
+    let h = name-fits (goal.at.slice_bounds-name-end c).Start _
+    c.name_len-len.ensures in
+    let l = name-size (goal.at.slice_bounds-name-end c).Start in
+    omega arith
+
+pub slice_bounds-right_name-end : goal.slice_bounds-right_name-end
+slice_bounds-right_name-end c =
+    let h = name-fits (goal.at.slice_bounds-right_name-end c).Start _
+    c.name_len-len.ensures in
+    let l = name-size (goal.at.slice_bounds-right_name-end c).Start in
+    sym (length-take-le _ _ (omega arith))
+
+pub slice_bounds-zero_bytes-count : goal.slice_bounds-zero_bytes-count
+slice_bounds-zero_bytes-count c = name-fits (goal.at.slice_bounds-zero_bytes-count c).Start _ c.name_len-len.ensures
+
+pub slice_bounds-zero_bytes-start : goal.slice_bounds-zero_bytes-start
+slice_bounds-zero_bytes-start c =
+    let h = name-fits (goal.at.slice_bounds-zero_bytes-start c).Start _ c.name_len-len.ensures in
+    search rules
+
+pub slice_bounds-zero_bytes-end : goal.slice_bounds-zero_bytes-end
+slice_bounds-zero_bytes-end c =
+    let s = c in
+    let h : longest_name ≤ length s.args.row.name
+    = omega (arith, name-size (goal.at.slice_bounds-zero_bytes-end c).Start) in
+    h
+
+pub zero_times-requires : goal.zero_times-requires
+zero_times-requires c
+    = times-fit (goal.at.zero_times-requires c).Start _ c.count-count.ensures
+
+pub returns : goal.returns
+returns c =
+    let s = (goal.at.returns c).Start in
+    let n = c.name_len-len in
+    let front = c.right_name.ensures
+    ∙ ap right_name (name-front s.args.row n.result n.ensures) in
+    let back = c.zero_bytes.ensures ∙ name_back s.args.row n.result (name-size s) n.ensures in
+    c.both-4.ensures
+    ∙ row-tests s.args.row c.count-count.result c.count-count.ensures c.too_long.ensures c.both-lengths.ensures
+    c.right_times.ensures
+    c.both.ensures
+    c.right_count.ensures c.both-timed.ensures
+    c.right_number-2.ensures
+    c.both-2.ensures
+    c.right_number.ensures
+    c.both-numbers.ensures
+    front c.both-right.ensures c.zero_times.ensures c.both-3.ensures back

@@ -1,0 +1,22 @@
+-- `unused_row` meets its contract: its tests joined are `unused`.
+use Rattle.words.specs.Lists.{is_zero, all}
+use mathlib.Core.Path.{ap, ◌∙◌}
+use mathlib.Core.Bool.{Bool}
+use lib.Dec.{eqb}
+use Rattle.words.specs.Choice.{◌and◌}
+use Rattle.rules.specs.Tests.{unused}
+use borrow.Author.Rules.{rules}
+use Rattle.rules.proofs.unused_row.Goals as goal
+
+pub returns : goal.returns
+unfolding unused
+returns c =
+    let s = c in
+    let a = s.args.row in
+    c.both-2.ensures
+    ∙ ap (λ (z : Bool). z and c.both-numbers.result) c.zero_bytes.ensures
+    ∙ ap (λ (z : Bool). all is_zero a.name and z)
+    (c.both-numbers.ensures
+    ∙ ap (λ (z : Bool). eqb a.period.0 0 and z)
+    (c.both.ensures
+    ∙ ap (λ (z : Bool). eqb a.deadline.0 0 and z) c.zero_times.ensures))
