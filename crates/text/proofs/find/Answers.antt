@@ -1,0 +1,30 @@
+-- `find` meets its contract: what is found from here on lies where it is found from the start.
+use Rattle.words.specs.Lists.{up_to}
+use Rattle.words.proofs.Lists.{up_to-at, up_to-here, up_to-end}
+use mathlib.Core.Path.{◌≡◌, refl}
+use Prim.Native.Nat.{◌+◌, ◌-◌, ◌≤◌}
+use native.Mathlib.Omega.{arith}
+use lib.ListN.{length, drop}
+use borrow.Author.Rules.{rules}
+use Rattle.text.proofs.find.Goals as goal
+
+pub loop-i-init : goal.loop-i-init
+loop-i-init c = (c.requires, refl)
+
+pub returns-then-bytes-i : goal.returns-then-bytes-i
+returns-then-bytes-i c =
+    let a = c.args in
+    omega (arith, up_to-here a.byte a.bytes.now c.loop-i.i c.loop-i-test.true c.if-bytes-i.true)
+
+pub loop-i-smaller : goal.loop-i-smaller
+loop-i-smaller c = omega arith
+
+pub loop-i-preserved : goal.loop-i-preserved
+loop-i-preserved c =
+    let a = c.args in
+    omega (arith, up_to-at a.byte a.bytes.now c.loop-i.i c.loop-i-test.true c.if-bytes-i.false)
+
+pub returns : goal.returns
+returns c =
+    let a = c.args in
+    omega (arith, up_to-end a.byte a.bytes.now c.loop-i.i c.loop-i-test.false)

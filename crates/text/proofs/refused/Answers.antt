@@ -1,0 +1,6 @@
+-- `refused` meets its contract: the refusal, and an empty table.
+use borrow.Author.Rules.{rules}
+use Rattle.text.proofs.refused.Goals as goal
+
+pub returns : goal.returns
+returns c = rw c.empty.ensures
