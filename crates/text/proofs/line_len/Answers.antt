@@ -14,7 +14,7 @@ use Rattle.table.proofs.Rows.{times-within}
 use Rattle.text.specs.Write.{line_text}
 use Rattle.text.proofs.Fits.{limits-agree, line-fits}
 use Rattle.text.proofs.Writer.{time_at, times_text, times-used, row-length}
-use Rattle.text.proofs.line_len.Goals.{After-loop-i, After-width-2, After-width-in-loop-i, In-loop-i, Start}
+use Rattle.text.proofs.line_len.Goals.{After-loop-i, After-width-2, After-width-in-loop-i, In-loop-i-unread, Start}
 use Rattle.text.proofs.line_len.Goals as goal
 
 -- a right row's line is short
@@ -33,7 +33,7 @@ whole c =
     let v = c.args.row in
     omega (arith, row-length (row_of v), c.name_len.ensures, c.width.ensures, c.width-2.ensures, ap length (times-used v _ c.count-count.ensures))
 
-below-most : (c : In-loop-i) → c.loop-i.i < most_times
+below-most : (c : In-loop-i-unread) → c.loop-i.i < most_times
 below-most c =
     let v = c.args.row in
     let l : length v.times ≡ most_times = c.well_formed.0.1.1.1.1.1.0.1.0.1 in

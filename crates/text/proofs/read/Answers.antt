@@ -16,6 +16,10 @@ use Rattle.text.specs.Split.{fields}
 use Rattle.text.specs.Read.{refused, bad, right_fields, no_row, read_fields, read_text, reading_of}
 use Rattle.text.proofs.Steps.{no_text, long-text, no-line-feed, text-lines}
 use Rattle.text.proofs.Reader.{AtLine, AtEnd, AtField, AtTab, AtRow, line_at, lines-begin, all_read, refused-many, end-within, refused-waiting, refused-count, refused-field, fields-begin, fields-done, tab-within, field-few, refused-name, refused-number, after-name, after-number, refused-late, refused-long, refused-taken, after-row}
+use Rattle.table.specs.Value.{row_of}
+use Rattle.text.proofs.Values.{Kept}
+use Rattle.text.specs.Read.{got}
+use Rattle.table.specs.declared.Row.{Row as RowValue}
 use Rattle.text.proofs.read.Goals.{After-find-e, After-find-q, After-loop-p, At-lines, Else-not-right_fields, else-f-eq1+in-Is, then-f-eq1+else-not-right_name}
 use Rattle.text.proofs.read.Goals as goal
 
