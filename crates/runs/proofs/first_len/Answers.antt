@@ -1,0 +1,6 @@
+-- `first_len` meets its contract.
+use borrow.Author.Rules.{rules}
+use Rattle.runs.proofs.first_len.Goals as goal
+
+pub returns-in-At : goal.returns-in-At
+returns-in-At c = rw c.in-At.is c.width.ensures
