@@ -1,0 +1,6 @@
+-- `figure_len` meets its contract.
+use borrow.Author.Rules.{rules}
+use Rattle.report.proofs.figure_len.Goals as goal
+
+pub returns-in-Is : goal.returns-in-Is
+returns-in-Is c = rw c.in-Is.is c.width.ensures

@@ -1,0 +1,6 @@
+-- `figure_of` meets its contract.
+use borrow.Author.Rules.{rules}
+use Rattle.report.proofs.figure_of.Goals as goal
+
+pub returns-in-Fits : goal.returns-in-Fits
+returns-in-Fits c = rw c.in-Fits.is
