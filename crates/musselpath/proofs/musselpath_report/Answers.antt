@@ -1,0 +1,16 @@
+-- `musselpath_report` meets its contract.
+use mathlib.Core.Path.{sym, ◌∙◌}
+use Rattle.report.specs.Report.{answer_text}
+use Rattle.musselpath.proofs.Answers.{bytes-fitted, refused-fitted}
+use borrow.Author.Rules.{rules}
+use Rattle.musselpath.proofs.musselpath_report.Goals as goal
+
+pub returns-in-Bytes : goal.returns-in-Bytes
+returns-in-Bytes c =
+    let s = c.args in
+    (bytes-fitted (answer_text s.text.now) s.out.now _ (sym c.answer.ensures.0 ∙ c.in-Bytes.is), c.answer.ensures.1)
+
+pub returns-in-Refused : goal.returns-in-Refused
+returns-in-Refused c =
+    let s = c.args in
+    (refused-fitted (answer_text s.text.now) s.out.now _ (sym c.answer.ensures.0 ∙ c.in-Refused.is), c.answer.ensures.1)

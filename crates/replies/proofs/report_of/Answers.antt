@@ -1,0 +1,37 @@
+-- `report_of` meets its contract: every answer has room.
+use mathlib.Core.Path.{◌≡◌}
+use mathlib.Core.List.{List}
+use Prim.Native.Nat.{◌≤◌}
+use native.Mathlib.Omega.{arith}
+use lib.ListN.{length}
+use Rattle.table.specs.Limits.{longest_text}
+use Rattle.report.specs.Report.{answer_text}
+use Rattle.replies.proofs.Fits.{report-room}
+use Rattle.replies.proofs.Laws.{replied, put_whole, put-never-refused}
+use borrow.Author.Rules.{rules}
+use Rattle.replies.proofs.report_of.Goals.{After-answer-arg-1}
+use Rattle.replies.proofs.report_of.Goals as goal
+
+-- the answer has room in the buffer
+room : (c : After-answer-arg-1) → length (answer_text c.args.text.now) ≤ length c.args.out.now
+room c =
+    let size : length c.args.out.now ≡ longest_text = c.told-out in
+    omega (arith, size, report-room c.args.text.now)
+
+pub returns-in-Bytes : goal.returns-in-Bytes
+returns-in-Bytes c =
+    let s = c in
+    let w = c.answer in
+    let t = answer_text s.args.text.now in
+    let d = s.args.out.now in
+    let h = room (goal.at.returns-in-Bytes c).After-answer-arg-1 in
+    let r = replied t d _ _ h (put_whole t d _ w.result h w.ensures.0 w.ensures.1 _ c.in-Bytes.is) in
+    record { value = r.0; front = r.1 }
+
+pub returns-in-Refused : goal.returns-in-Refused
+returns-in-Refused c =
+    let s = c in
+    let w = c.answer in
+    let t = answer_text s.args.text.now in
+    let h = room (goal.at.returns-in-Refused c).After-answer-arg-1 in
+    absurd (put-never-refused t s.args.out.now _ w.result h w.ensures.0 w.ensures.1 _ c.in-Refused.is)
