@@ -1,7 +1,7 @@
 /*
  * Musselpath for C: the report of a table text, and its full run.
  *
- * Link libmusselpath.a (`rt staticlib musselpath` proves it and writes it to target/staticlib/). It links into x86-64 programs.
+ * Link libmusselpath.a (`tools/build musselpath_c` proves it and writes it to target/staticlib/). It links into x86-64 programs.
  *
  * What holds of both functions:
  *

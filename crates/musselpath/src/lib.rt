@@ -1,4 +1,4 @@
-// The boundary for the box's firmware and for other programs: two functions in the C ABI, over bytes and numbers. include/musselpath.h declares them.
+// The boundary for the box's firmware and for other programs: two functions over bytes and numbers, which musselpath_c gives to C.
 #![tactic(auto)]
 
 ghost use Rattle.std.specs.Prelude.{◌≡◌, true, ◌≤◌, length};
@@ -23,8 +23,7 @@ const NOT_COMPLETE: u64 = 18_446_744_073_709_551_615;
 const SHIFT: u64 = 65_536;
 
 // Puts the report of a text or the line of its refusal at the front of out, and answers how many bytes it has; 0, and out is unchanged, where out is too short.
-#[unsafe(no_mangle)]
-pub extern "C" fn musselpath_report(text: &[u8], out: &mut [u8]) -> u64
+pub fn musselpath_report(text: &[u8], out: &mut [u8]) -> u64
     ensures { (result ≡ fitted (answer_text text.now) out.old) × (out.new ≡ placed (answer_text text.now) out.old) }
 {
     match report::answer(text, out) {
@@ -84,8 +83,7 @@ fn run(table: Table, ticks: u64, out: &mut [u64]) -> u64
 }
 
 // Puts the completion instants of the full run at the front of out, one for each row, and answers 0; or the refusal with its place, and out is unchanged.
-#[unsafe(no_mangle)]
-pub extern "C" fn musselpath_full_run(text: &[u8], ticks: u64, out: &mut [u64]) -> u64
+pub fn musselpath_full_run(text: &[u8], ticks: u64, out: &mut [u64]) -> u64
     ensures { (result ≡ run_answered text.now ticks out.old) × (out.new ≡ run_left text.now ticks out.old) }
 {
     let reading = text::read(text);

@@ -8,7 +8,7 @@ use native.Mathlib.Numerals.{add-one}
 use native.Mathlib.Decide.{dec_le}
 use lib.ListN.{length, take, get_or, set, replicate, length-map, length-append}
 use lib.Seq.{take_all, take-length, take-suc, length-take-le, set_at, append_snoc, get_or-append_seam}
-use Rattle.words.specs.Choice.{◌and◌, ◌or◌}
+use Rattle.words.specs.Choice.{◌or◌}
 use Rattle.words.specs.Lists.{all, any, below}
 use Rattle.words.proofs.Choice.{and_parts, and_both, or-true}
 use Rattle.words.proofs.Lists.{all_snoc, any_snoc}

@@ -1,7 +1,7 @@
 use Rattle.decimal.proofs.Digits.{length-big, length_some, digit-moved, digit-left, length-below}
-use lib.ListN.{length-set, length, drop}
-use mathlib.Core.Path.{◌≡◌, refl, sym}
-use mathlib.Core.List.{◌++◌, append-nil}
+use lib.ListN.{length-set, length}
+use mathlib.Core.Path.{refl, sym}
+use mathlib.Core.List.{append-nil}
 use Prim.Native.Nat.{◌≤◌}
 use native.Mathlib.Omega.{arith}
 use Rattle.decimal.specs.Decimal.{digits}

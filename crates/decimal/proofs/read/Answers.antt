@@ -1,15 +1,12 @@
 -- `decimal::read` meets its contract: what is left to read, after the number so far, gives the same answer as the whole.
 use mathlib.Core.Path.{◌≡◌, refl, sym, ◌∙◌}
-use mathlib.Core.Bool.{true}
-use mathlib.Core.Logic.{⊎_elim}
-use Prim.Native.Nat.{◌+◌, ◌-◌, ◌*◌, ◌≤◌}
+use Prim.Native.Nat.{◌+◌, ◌-◌, ◌*◌}
 use native.Mathlib.Omega.{arith}
-use lib.ListN.{length, get_or, drop}
+use lib.ListN.{get_or, drop}
 use borrow.Author.Rules.{rules}
-use Rattle.words.specs.Lists.{all}
 use Rattle.words.proofs.Choice.{and-true, and-false}
 use Rattle.words.proofs.Lists.{all-at, all_end}
-use Rattle.decimal.specs.Decimal.{digit, value, leads}
+use Rattle.decimal.specs.Decimal.{digit, value}
 use Rattle.decimal.proofs.Reading.{is_digit, digit_low, digit-high, leads-none, leads_one, leads-many, leads-zero, value-at, value-end}
 use Rattle.decimal.proofs.Reading.{value-le, number-leads, number-digit, number-high, number-low, number_is}
 use Rattle.decimal.proofs.read.Goals.{then-n-gt1+else-bytes-eq48, else-n-gt1}

@@ -1,9 +1,6 @@
 -- `decimal::width` meets its contract: what is left of the number and the digits counted so far give the whole number's digits.
-use mathlib.Core.Path.{◌≡◌, refl}
-use Prim.Native.Nat.{◌+◌, ◌≤◌}
+use mathlib.Core.Path.{refl}
 use native.Mathlib.Omega.{arith}
-use lib.ListN.{length}
-use Rattle.decimal.specs.Decimal.{digits}
 use Rattle.decimal.proofs.Digits.{length-big, length-small}
 use Rattle.decimal.proofs.width.Goals as goal
 

@@ -1,10 +1,8 @@
 -- `decimal::width` meets its contract: what is left of the number and the digits counted so far give the whole number's digits.
-use mathlib.Core.Path.{◌≡◌, refl}
+use mathlib.Core.Path.{◌≡◌}
 use Prim.Native.Nat.{◌+◌, ◌≤◌}
-use native.Mathlib.Omega.{arith}
 use lib.ListN.{length}
 use Rattle.decimal.specs.Decimal.{digits}
-use Rattle.decimal.proofs.Digits.{length-big, length-small}
 use Rattle.decimal.proofs.width.Given as goal
 
 abbrev pub invariant-loop-rest : goal.invariant-loop-rest

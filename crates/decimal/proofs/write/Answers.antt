@@ -7,7 +7,6 @@ use lib.ListN.{length, take, drop, length-drop}
 use lib.Seq.{take_all}
 use Rattle.words.proofs.Buffer.{placed-fits, placed-short, fitted-fits, fitted_short, copied}
 use Rattle.decimal.specs.Decimal.{digits}
-use borrow.Author.Rules.{rules}
 use Rattle.decimal.proofs.write.Goals as goal
 
 -- the digits are what stands in the scratch array from `at` on

@@ -1,14 +1,13 @@
 -- `named` meets its contract: the rows that are left decide.
 use mathlib.Core.Path.{◌≡◌, refl, sym, ◌∙◌}
 use mathlib.Core.Bool.{true, false}
-use Prim.Native.Nat.{◌-◌, ◌≤◌}
 use native.Mathlib.Omega.{arith}
 use borrow.Author.Rules.{rules}
-use lib.ListN.{length, get_or, take, drop}
+use lib.ListN.{length, get_or}
 use Rattle.words.specs.Lists.{same}
 use Rattle.words.proofs.Choice.{or-true, or-false}
 use Rattle.table.specs.Limits.{most_rows}
-use Rattle.table.specs.Value.{no_value, name_in}
+use Rattle.table.specs.Value.{no_value}
 use Rattle.table.proofs.Rows.{name-in-at, name-in-end}
 use Rattle.table.proofs.named.Goals as goal
 

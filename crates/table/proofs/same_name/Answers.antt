@@ -1,12 +1,10 @@
 -- `same_name` meets its contract: what is left of both decides.
 use mathlib.Core.Path.{◌≡◌, refl, sym, ◌∙◌}
-use Prim.Native.Nat.{◌-◌, ◌≤◌}
 use native.Mathlib.Omega.{arith}
 use borrow.Author.Rules.{rules}
 use borrow.Author.Tests.{eq-eqb, ne_eqb}
-use lib.ListN.{length, drop}
+use lib.ListN.{length}
 use Rattle.table.specs.Limits.{longest_name}
-use Rattle.words.specs.Lists.{same}
 use Rattle.words.proofs.Choice.{and-true, and-false}
 use Rattle.words.proofs.Lists.{same_at, same_end}
 use Rattle.table.proofs.same_name.Goals as goal

@@ -3,11 +3,9 @@ use Rattle.table.specs.Limits.{most_times}
 use Rattle.table.proofs.Rows.{time-at, times-length}
 use mathlib.Core.Path.{◌≡◌, sym, ◌∙◌}
 use mathlib.Core.List.{map}
-use Prim.Native.Nat.{◌+◌, ◌-◌, ◌≤◌}
 use native.Mathlib.Omega.{arith}
 use borrow.Author.Rules.{rules}
-use lib.ListN.{length, drop, length-map}
-use Rattle.words.specs.Lists.{up_to}
+use lib.ListN.{length}
 use Rattle.words.proofs.Lists.{up_to-at, up_to-here, up_to-end}
 use Rattle.ticks.specs.Ticks.{ticks}
 use Rattle.table.proofs.Row.count.Goals as goal

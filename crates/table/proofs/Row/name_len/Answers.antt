@@ -1,11 +1,9 @@
 -- `Row::name_len` meets its contract: the bytes passed so far and those up to the next zero are the whole name.
 use mathlib.Core.Path.{◌≡◌}
-use Prim.Native.Nat.{◌+◌, ◌-◌, ◌≤◌}
 use native.Mathlib.Omega.{arith}
 use borrow.Author.Rules.{rules}
-use lib.ListN.{length, drop}
+use lib.ListN.{length}
 use Rattle.table.specs.Limits.{longest_name}
-use Rattle.words.specs.Lists.{up_to}
 use Rattle.words.proofs.Lists.{up_to-at, up_to-here, up_to-end}
 use Rattle.table.proofs.Row.name_len.Goals as goal
 

@@ -1,12 +1,12 @@
 -- `Row::too_long` meets its contract: what is left of D falls short of the times that are left exactly where D falls short of all of them.
 use Rattle.table.specs.Limits.{most_times}
 use Rattle.table.proofs.Rows.{time-at, times-length}
-use mathlib.Core.Path.{◌≡◌, refl, sym, ◌∙◌}
+use mathlib.Core.Path.{◌≡◌, refl, sym}
 use mathlib.Core.List.{map}
-use Prim.Native.Nat.{◌+◌, ◌-◌, ◌≤◌, ◌<◌}
+use Prim.Native.Nat.{◌≤◌, ◌<◌}
 use native.Mathlib.Omega.{arith}
 use borrow.Author.Rules.{rules}
-use lib.ListN.{length, drop, length-map}
+use lib.ListN.{length}
 use borrow.Author.Tests.{lt-ltb, le-ltb}
 use Rattle.words.specs.Lists.{sum}
 use Rattle.words.proofs.Lists.{sum-at, sum-end}

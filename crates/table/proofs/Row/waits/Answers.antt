@@ -1,7 +1,6 @@
 use lib.Dec.{ltb}
 use mathlib.Core.Path.{ap}
 use Rattle.table.specs.Paper.{waits}
-use borrow.Author.Rules.{rules}
 use Rattle.table.proofs.Row.waits.Goals as goal
 
 pub returns : goal.returns

@@ -1,5 +1,4 @@
 use lib.ListN.{replicate}
-use borrow.Author.Rules.{rules}
 use Rattle.table.specs.Limits.{most_rows}
 use Rattle.table.proofs.Table.empty.Goals as goal
 

@@ -1,4 +1,3 @@
-use borrow.Author.Rules.{rules}
 use Rattle.ticks.proofs.Instant.plus.Goals as goal
 
 pub returns : goal.returns
