@@ -7,7 +7,6 @@ use Prim.Native.Nat.{ℕ, zero, suc, ◌+◌, ◌-◌, ◌≤◌, ◌<◌}
 use native.Mathlib.Omega.{arith}
 use lib.ListN.{length}
 use borrow.Author.Tests.{eq-eqb, ne_eqb, lt-ltb, le-ltb}
-use Rattle.words.specs.Choice.{◌or◌}
 use Rattle.words.proofs.Choice.{or-true, or-false, if-true, if-false}
 use Rattle.recurrence.specs.Figures.{stops, sequence_from, sequence, last, settled, result, rounds}
 

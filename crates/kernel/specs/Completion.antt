@@ -1,4 +1,4 @@
--- The completion of a row's first job in the full run: document 01, the end of '_the kernel's rules'.
+-- The completion of a row's first job in the full run: document 01, the end of 'The kernel's rules'.
 use Rattle.std.specs.Prelude.{Bool, true, List, [], ◌∷◌, ℕ, zero, suc, ltb}
 use Rattle.std.proofs.Math.Option.{Option, none, some}
 use Rattle.words.specs.Choice.{if◌then◌else◌, ◌and◌}

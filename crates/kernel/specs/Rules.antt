@@ -1,4 +1,4 @@
--- The kernel's rules: document 01, '_the kernel's rules'. Time is whole ticks; tick n lies between the instants n and n + 1.
+-- The kernel's rules: document 01, 'The kernel's rules'. Time is whole ticks; tick n lies between the instants n and n + 1.
 use Rattle.std.specs.Prelude.{◌≡◌, Bool, true, false, not, ◌&&◌, List, [], ◌∷◌, ◌++◌, ℕ, zero, suc, ◌+◌, ◌%◌, ◌≤◌, ◌<◌, eqb, length}
 use Rattle.std.proofs.Math.Option.{Option, none, some}
 use Rattle.words.specs.Choice.{if◌then◌else◌}

@@ -1,4 +1,4 @@
--- The full run: document 01, the end of '_the kernel's rules'. Each answer is read off the kernel's rules themselves.
+-- The full run: document 01, the end of 'The kernel's rules'. Each answer is read off the kernel's rules themselves.
 use Rattle.std.specs.Prelude.{Bool, true, false, List, [], ◌∷◌, ◌++◌, map, ℕ, zero, suc, ◌-◌, ltb, length, replicate}
 use Rattle.std.proofs.Math.Option.{Option, none, some}
 use Rattle.words.specs.Choice.{if◌then◌else◌, ◌and◌}

@@ -1,4 +1,4 @@
--- The cases of document 01 that are marked P, '_figures on both sides of the line': one list, one statement. Rows are counted from 1.
+-- The cases of document 01 that are marked P, 'Figures on both sides of the line': one list, one statement. Rows are counted from 1.
 use Rattle.std.specs.Prelude.{◌≡◌, refl, List, [], ◌∷◌, map, ℕ, ◌-◌}
 use Rattle.std.proofs.Math.Option.{Option, none, some}
 use Prim.Native.String.{String}

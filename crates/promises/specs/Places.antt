@@ -1,5 +1,5 @@
 -- THE REFUSALS 4 TO 11 OF A TEXT, a second time and with no reader: which line is the first bad one, and which rule it breaks first, at
--- which field. Document 01, '_refusal numbers'. proofs/Places shows that text::read gives exactly these; 1, 2 and 3 are in specs/Demands.
+-- which field. Document 01, 'Refusal numbers'. proofs/Places shows that text::read gives exactly these; 1, 2 and 3 are in specs/Demands.
 use Rattle.std.specs.Prelude.{◌≡◌, Bool, true, false, not, List, [], ◌∷◌, ◌++◌, map, ◌↔◌, ℕ, ◌+◌, ◌-◌, ◌≤◌, ◌<◌, eqb, length, get_or}
 use Rattle.words.specs.Lists.{sum, all, any}
 use Rattle.decimal.specs.Decimal.{digits}

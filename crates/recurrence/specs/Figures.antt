@@ -1,4 +1,4 @@
--- The figures: document 01, '_the figures'. Row k is counted from 0; the rows above it are 0 to k - 1.
+-- The figures: document 01, 'The figures'. Row k is counted from 0; the rows above it are 0 to k - 1.
 use Rattle.std.specs.Prelude.{Bool, true, false, List, [], ◌∷◌, ℕ, zero, suc, ◌+◌, ◌-◌, ◌*◌, ◌/◌, eqb, ltb, length}
 use Rattle.std.proofs.Math.Option.{Option, none, some}
 use Rattle.words.specs.Choice.{if◌then◌else◌, ◌or◌}

@@ -1,4 +1,4 @@
--- What the recurrence is to find: document 01, '_the figures'.
+-- What the recurrence is to find: document 01, 'The figures'.
 use Rattle.std.specs.Prelude.{◌≡◌, ℕ, ◌+◌, ◌≤◌, ◌<◌}
 
 -- R is the smallest positive t with f(t) = t

@@ -1,4 +1,4 @@
--- The line of a refusal: document 01, '_the report'.
+-- The line of a refusal: document 01, 'The report'.
 use Rattle.std.specs.Prelude.{List, [], ◌∷◌, ℕ, leb}
 use Rattle.words.specs.Choice.{if◌then◌else◌}
 use Rattle.words.specs.Spelled.{spelled}

@@ -1,4 +1,4 @@
--- The report: document 01, '_the report'.
+-- The report: document 01, 'The report'.
 use Rattle.std.specs.Prelude.{List, [], ◌∷◌, ◌++◌, map, ℕ, ◌+◌, ◌*◌, length}
 use Rattle.words.specs.Choice.{if◌then◌else◌}
 use Rattle.words.specs.Lists.{below}

@@ -16,7 +16,7 @@ use Rattle.table.specs.declared.Row.{Row as RowValue}
 use Rattle.table.specs.Limits.{longest_name}
 use Rattle.table.specs.Paper.{right_name, right_number, right_count, right_row}
 use Rattle.table.specs.Value.{no_value, row_of, name_in}
-use Rattle.ticks.specs.Ticks.{ticks, long}
+use Rattle.ticks.specs.Ticks.{ticks}
 use Rattle.rules.specs.Tests.{ended, right_value, waits_value, rows_test}
 use Rattle.table.proofs.Rows.{times-front, used-row, used-end}
 

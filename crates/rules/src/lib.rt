@@ -196,7 +196,8 @@ pub fn well_formed(table: Table) -> bool
 {
     let rows = table.rows;
     let len = table.len;
-    if len < 1 {
+    let none = len < 1;
+    if none {
         return false;
     }
     if Table::ROWS < len {

@@ -1,4 +1,4 @@
--- A table on paper, and the rules that it keeps: document 01, '_the table and its text'.
+-- A table on paper, and the rules that it keeps: document 01, 'The table and its text'.
 use Rattle.std.specs.Prelude.{Bool, true, not, List, [], ◌∷◌, ◌++◌, ℕ, ◌+◌, ◌%◌, eqb, ltb, leb, length, get_or}
 use Rattle.words.specs.Choice.{◌and◌, ◌or◌}
 use Rattle.words.specs.Lists.{sum, all, any, same}

@@ -1,4 +1,4 @@
--- What reading a text gives: document 01, '_refusal numbers', in the order in which it tests.
+-- What reading a text gives: document 01, 'Refusal numbers', in the order in which it tests.
 use Rattle.std.specs.Prelude.{Bool, List, [], ◌∷◌, ◌++◌, ℕ, ◌+◌, ◌-◌, eqb, ltb, length, get_or}
 use Rattle.words.specs.Choice.{if◌then◌else◌}
 use Rattle.words.specs.Lists.{sum, any}

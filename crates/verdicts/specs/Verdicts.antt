@@ -1,4 +1,4 @@
--- What is said of a row and of a table: document 01, '_the figures'.
+-- What is said of a row and of a table: document 01, 'The figures'.
 use Rattle.std.specs.Prelude.{Bool, true, false, List, ℕ, leb}
 use Rattle.std.proofs.Math.Option.{Option, none, some}
 use Rattle.words.specs.Choice.{if◌then◌else◌}

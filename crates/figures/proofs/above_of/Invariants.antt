@@ -1,19 +1,12 @@
 -- `above_of` meets its contract: the rows passed stand in both arrays.
-use mathlib.Core.Path.{◌≡◌, refl, ◌∙◌}
+use mathlib.Core.Path.{◌≡◌}
 use mathlib.Core.List.{List}
-use Prim.Native.Nat.{ℕ, ◌+◌, ◌-◌, ◌≤◌, ◌<◌}
-use native.Mathlib.Omega.{arith}
-use native.Mathlib.Decide.{dec_lt}
-use borrow.Author.Rules.{rules}
-use lib.ListN.{length, get_or, set, length-set}
-use lib.Seq.{get_or-set_same, get_or-set_other}
+use Prim.Native.Nat.{ℕ, ◌-◌, ◌≤◌, ◌<◌}
+use lib.ListN.{length, get_or}
 use Rattle.table.specs.Limits.{most_rows}
-use Rattle.table.specs.Value.{no_value}
 use Rattle.table.specs.declared.Row.{Row as RowValue}
 use Rattle.table.specs.Paper.{parts, work}
-use Rattle.figures.specs.Work.{Taken, Kept, rows_of}
-use Rattle.figures.proofs.Values.{deadline-safe, work-fits, period-safe}
-use Rattle.recurrence.proofs.Rows.{sane}
+use Rattle.figures.specs.Work.{rows_of}
 use Rattle.figures.proofs.above_of.Given as goal
 
 -- the rows below i stand in the arrays

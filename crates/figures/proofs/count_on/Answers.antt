@@ -1,11 +1,9 @@
 -- `count_on` meets its contract: one release chosen or not, and the rest divided out, is all that came in since.
-use mathlib.Core.Path.{◌≡◌, sym, ap, ◌∙◌}
-use mathlib.Core.Logic.{◌⊎◌, inl, inr, ⊎_elim}
-use Prim.Native.Nat.{ℕ, ◌+◌, ◌*◌, ◌≤◌, ◌<◌}
+use mathlib.Core.Path.{◌≡◌, ap}
+use mathlib.Core.Logic.{inl, inr}
+use Prim.Native.Nat.{ℕ, ◌+◌, ◌*◌, ◌≤◌}
 use native.Mathlib.Nat.{mul-le-mul}
 use native.Mathlib.Omega.{arith}
-use borrow.Author.Rules.{rules}
-use Rattle.figures.specs.declared.Ahead.{Ahead}
 use Rattle.recurrence.specs.Figures.{ceiling}
 use Rattle.figures.specs.Work.{safe_number, more_of, ahead_of}
 use Rattle.figures.proofs.Counting.{more-none, more-few, chosen}

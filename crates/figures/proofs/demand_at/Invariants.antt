@@ -1,15 +1,10 @@
 -- `demand_at` meets its contract: the rows passed are counted at t, the others still at the instant before.
-use mathlib.Core.Path.{◌≡◌, refl, sym, ap, ◌∙◌}
-use mathlib.Core.List.{List}
-use Prim.Native.Nat.{ℕ, ◌+◌, ◌-◌, ◌*◌, ◌≤◌, ◌<◌}
-use native.Mathlib.Nat.{mul-le-mul_right}
-use native.Mathlib.Omega.{arith}
-use borrow.Author.Rules.{rules}
-use lib.ListN.{length, get_or, set, length-set}
+use mathlib.Core.Path.{◌≡◌}
+use Prim.Native.Nat.{◌-◌, ◌≤◌}
+use lib.ListN.{length}
 use Rattle.table.specs.Limits.{most_rows}
-use Rattle.figures.specs.declared.Ahead.{Ahead}
-use Rattle.figures.specs.Work.{safe_number, more_of, ahead_of, rows_from, Modest}
-use Rattle.figures.proofs.Counting.{Halfway, halfway-start, halfway-end, halfway-most, held-near, halfway-next, demand-safe}
+use Rattle.figures.specs.Work.{safe_number, rows_from, Modest}
+use Rattle.figures.proofs.Counting.{Halfway}
 use Rattle.figures.proofs.demand_at.Given as goal
 
 -- a row counted on

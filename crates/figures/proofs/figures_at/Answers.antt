@@ -5,7 +5,6 @@ use mathlib.Core.List.{List}
 use mathlib.Core.Option.{none}
 use Prim.Native.Nat.{ℕ, ◌+◌}
 use native.Mathlib.Omega.{arith}
-use borrow.Author.Tests.{not-true, not-false}
 use lib.ListN.{get_or}
 use Rattle.table.specs.Paper.{Row, parts, right_row, waits}
 use Rattle.table.specs.Value.{no_value}
@@ -19,7 +18,6 @@ use Rattle.figures.specs.declared.Worked.{Worked}
 use Rattle.recurrence.proofs.Rows.{sane, one_time, more-times}
 use Rattle.figures.proofs.Values.{deadline-safe}
 use Rattle.figures.proofs.Split.{right-same, worked-few, figure-back}
-use borrow.Author.Rules.{rules}
 use Rattle.figures.proofs.figures_at.Goals as goal
 
 -- the rounds of the recurrence with all C and S

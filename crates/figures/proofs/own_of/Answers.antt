@@ -1,13 +1,10 @@
 -- `own_of` meets its contract: the sum so far and the times that are left are all times.
-use mathlib.Core.Path.{◌≡◌, sym, ◌∙◌}
+use mathlib.Core.Path.{◌≡◌}
 use mathlib.Core.List.{map}
-use Prim.Native.Nat.{◌+◌, ◌-◌, ◌≤◌}
 use native.Mathlib.Omega.{arith}
 use borrow.Author.Rules.{rules}
-use lib.ListN.{length, drop, length-map}
-use Rattle.figures.specs.Work.{safe_number}
+use lib.ListN.{length}
 use Rattle.table.specs.Limits.{most_times}
-use Rattle.words.specs.Lists.{sum as Sum}
 use Rattle.words.proofs.Lists.{sum-at, sum-end}
 use Rattle.ticks.specs.Ticks.{ticks}
 use Rattle.table.proofs.Rows.{time-at, times-length}

@@ -5,7 +5,7 @@ use mathlib.Core.Path.{◌≡◌, sym, ap, ◌∙◌}
 use mathlib.Core.Bool.{true, false}
 use Prim.Native.Nat.{ℕ, ◌-◌, ◌≤◌, ◌<◌}
 use native.Mathlib.Omega.{arith}
-use borrow.Author.Tests.{not-true, not-false, le-leb, lt-leb}
+use borrow.Author.Tests.{le-leb, lt-leb}
 use lib.ListN.{length}
 use Rattle.words.proofs.Choice.{if-true, if-false, and_both, and-false, and-last-false}
 use Rattle.table.specs.Paper.{Row, row_at}
@@ -14,7 +14,6 @@ use Rattle.table.proofs.Used.{len_is, len-most}
 use Rattle.figures.specs.Answers.{figures_of, row_answer}
 use Rattle.figures.specs.declared.Answer.TheVariants.{Row as RowIs, Refused}
 use Rattle.figures.proofs.Tables.{rows_same, row_kept}
-use borrow.Author.Rules.{rules}
 use Rattle.figures.proofs.row_figures.Goals as goal
 
 -- the three answers about a well-formed table

@@ -1,18 +1,11 @@
 -- `solve` meets its contract: what is left of the sequence gives the rest of the rounds, and the releases are counted up to the t before.
-use mathlib.Core.Path.{◌≡◌, refl, sym, ap, ◌∙◌}
-use mathlib.Core.List.{List}
-use Prim.Native.Nat.{ℕ, ◌+◌, ◌-◌, ◌*◌, ◌≤◌}
-use native.Mathlib.Omega.{arith}
-use native.Mathlib.Nat.{mul-le-mul_right}
-use borrow.Author.Rules.{rules}
+use mathlib.Core.Path.{◌≡◌}
+use Prim.Native.Nat.{◌-◌}
 use lib.ListN.{length}
 use Rattle.table.specs.Limits.{most_rows}
-use Rattle.recurrence.specs.Figures.{demand, right, result, rounds}
-use Rattle.verdicts.specs.Verdicts.{figure_of}
-use Rattle.figures.specs.Work.{safe_number, rows_from, Modest, Counted}
-use Rattle.recurrence.proofs.Recurrence.{demand-mono}
-use Rattle.figures.proofs.Counting.{demand-safe, counted_start}
-use Rattle.figures.proofs.Steps.{Going, going_start, going-fixed, going-above, going_on}
+use Rattle.recurrence.specs.Figures.{right}
+use Rattle.figures.specs.Work.{rows_from, Counted}
+use Rattle.figures.proofs.Steps.{Going}
 use Rattle.figures.proofs.solve.Given as goal
 
 abbrev pub invariant-loop-t : goal.invariant-loop-t

@@ -2,12 +2,11 @@
 use mathlib.Core.Path.{◌≡◌, sym, ap, ◌∙◌}
 use mathlib.Core.List.{List, ◌∷◌, map}
 use mathlib.Core.Option.{Option, none, some}
-use Prim.Native.Nat.{ℕ, zero, suc, ◌+◌, ◌-◌, ◌*◌, ◌≤◌, ◌<◌}
+use Prim.Native.Nat.{ℕ, zero, suc, ◌+◌, ◌≤◌, ◌<◌}
 use native.Mathlib.Omega.{arith}
-use borrow.Author.Rules.{rules}
 use lib.ListN.{length, get_or}
 use Rattle.table.specs.Limits.{most_times}
-use Rattle.words.specs.Lists.{sum as Sum, up_to}
+use Rattle.words.specs.Lists.{sum as Sum}
 use Rattle.words.proofs.Lists.{all-each}
 use Rattle.table.specs.Paper.{right_number, parts}
 use Rattle.table.specs.Value.{no_value, row_of}
@@ -21,7 +20,7 @@ use Rattle.figures.specs.Work.{safe_number, worked_of, split_worked, rows_from, 
 use Rattle.figures.specs.declared.Above.{Above}
 use Rattle.figures.specs.declared.Worked.{Worked}
 use Rattle.figures.proofs.Values.{deadline-safe, time-used}
-use Rattle.figures.proofs.Split.{right-same, worked-fits, worked-few, figure-back, split_by, rounds_by, split_by-sum, rounds-by, Parted}
+use Rattle.figures.proofs.Split.{right-same, worked-fits, worked-few, figure-back, split_by, rounds_by, split_by-sum, rounds-by}
 use Rattle.figures.proofs.Split.{parted-start, parted-none, parted-some, parted-end, before-used, time-sum}
 use Rattle.figures.proofs.split_of.Invariants.{res, num}
 use Rattle.figures.proofs.split_of.Goals as goal

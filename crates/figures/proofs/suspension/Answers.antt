@@ -6,7 +6,6 @@ use lib.ListN.{get_or}
 use Rattle.ticks.specs.declared.Length.{Length}
 use Rattle.ticks.specs.Ticks.{ticks, long}
 use Rattle.table.proofs.Rows.{time-at}
-use borrow.Author.Rules.{rules}
 use Rattle.figures.proofs.suspension.Goals as goal
 
 one-before : (ts : List Length) (j : ℕ) → (j ≡ 0 → ⊥) → (get_or ts (j - 1) (long 0)).0 ≡ get_or (0 ∷ map ticks ts) j 0

@@ -1,19 +1,14 @@
 -- `work_of` meets its contract: the C so far and those from the next stretch on are all C.
-use mathlib.Core.Path.{◌≡◌, sym, ◌∙◌}
+use mathlib.Core.Path.{◌≡◌}
 use mathlib.Core.List.{List, map}
-use Prim.Native.Nat.{ℕ, ◌+◌, ◌-◌, ◌≤◌, ◌<◌}
-use native.Mathlib.Omega.{arith}
-use borrow.Author.Rules.{rules}
-use lib.ListN.{length, drop, get_or, length-map}
+use Prim.Native.Nat.{ℕ, ◌+◌, ◌-◌, ◌≤◌}
+use lib.ListN.{length, drop}
 use Rattle.ticks.specs.declared.Length.{Length}
 use Rattle.words.specs.Lists.{up_to}
 use Rattle.table.specs.Limits.{most_times}
 use Rattle.table.specs.Paper.{parts, work}
-use Rattle.ticks.specs.Ticks.{ticks, long}
-use Rattle.table.proofs.Rows.{time-at, times-within}
+use Rattle.ticks.specs.Ticks.{ticks}
 use Rattle.figures.specs.Work.{safe_number}
-use Rattle.recurrence.proofs.Rows.{work-at, work-end}
-use Rattle.figures.proofs.Values.{work-fits, deadline-safe, time-used}
 use Rattle.figures.proofs.work_of.Given as goal
 
 -- the times in use

@@ -1,16 +1,9 @@
 -- `rest_unused` meets its contract: the rows that are left decide.
-use mathlib.Core.Path.{◌≡◌, refl, sym, ◌∙◌}
-use mathlib.Core.Bool.{true, false}
+use mathlib.Core.Path.{◌≡◌}
 use Prim.Native.Nat.{◌-◌, ◌≤◌}
-use native.Mathlib.Omega.{arith}
-use borrow.Author.Rules.{rules}
-use borrow.Author.Tests.{not-true, not-false}
-use lib.ListN.{length, get_or, drop}
+use lib.ListN.{length, drop}
 use Rattle.table.specs.Limits.{most_rows}
 use Rattle.words.specs.Lists.{all}
-use Rattle.words.proofs.Choice.{and-true, and-false}
-use Rattle.words.proofs.Lists.{all-at, all_end}
-use Rattle.table.specs.Value.{no_value}
 use Rattle.rules.specs.Tests.{unused}
 use Rattle.rules.proofs.rest_unused.Given as goal
 

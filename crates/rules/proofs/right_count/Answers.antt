@@ -1,5 +1,4 @@
 use Rattle.table.specs.Paper.{right_count}
-use borrow.Author.Rules.{rules}
 use Rattle.rules.proofs.right_count.Goals as goal
 
 pub returns : goal.returns

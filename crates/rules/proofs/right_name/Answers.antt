@@ -1,14 +1,11 @@
 -- `right_name` meets its contract: where the length is right, what is left of the bytes decides.
 use mathlib.Core.Bool.{true, false}
 use mathlib.Core.Path.{◌≡◌, sym, ◌∙◌}
-use Prim.Native.Nat.{◌-◌, ◌≤◌}
 use borrow.Author.Rules.{rules}
-use borrow.Author.Tests.{not-true, not-false}
-use lib.ListN.{length, get_or, drop}
-use Rattle.words.specs.Lists.{all}
+use lib.ListN.{get_or}
 use Rattle.words.proofs.Choice.{and-true, and-false}
 use Rattle.words.proofs.Lists.{all-at, all_end}
-use Rattle.table.specs.Paper.{name_byte, right_name}
+use Rattle.table.specs.Paper.{name_byte}
 use Rattle.rules.proofs.Names.{name-short, name-long, name-bytes}
 use Rattle.rules.proofs.right_name.Goals as goal
 

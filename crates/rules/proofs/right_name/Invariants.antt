@@ -1,15 +1,9 @@
 -- `right_name` meets its contract: where the length is right, what is left of the bytes decides.
-use mathlib.Core.Bool.{true, false}
-use mathlib.Core.Path.{◌≡◌, sym, ◌∙◌}
+use mathlib.Core.Path.{◌≡◌}
 use Prim.Native.Nat.{◌-◌, ◌≤◌}
-use borrow.Author.Rules.{rules}
-use borrow.Author.Tests.{not-true, not-false}
-use lib.ListN.{length, get_or, drop}
+use lib.ListN.{length, drop}
 use Rattle.words.specs.Lists.{all}
-use Rattle.words.proofs.Choice.{and-true, and-false}
-use Rattle.words.proofs.Lists.{all-at, all_end}
 use Rattle.table.specs.Paper.{name_byte, right_name}
-use Rattle.rules.proofs.Names.{name-short, name-long, name-bytes}
 use Rattle.rules.proofs.right_name.Given as goal
 
 abbrev pub invariant-loop-i : goal.invariant-loop-i

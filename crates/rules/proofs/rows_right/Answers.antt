@@ -1,17 +1,14 @@
 -- `rows_right` meets its contract: the tests of the rows that are left, below those passed, decide.
 use mathlib.Core.Path.{◌≡◌, refl, sym, ap, ◌∙◌}
 use mathlib.Core.Bool.{true, false, not}
-use mathlib.Core.List.{[]}
-use Prim.Native.Nat.{◌-◌, ◌≤◌}
 use native.Mathlib.Omega.{arith}
 use borrow.Author.Rules.{rules}
-use borrow.Author.Tests.{not-true, not-false}
-use lib.ListN.{length, get_or, take, drop}
+use lib.ListN.{length, get_or, take}
 use Rattle.table.specs.Limits.{most_rows}
 use Rattle.words.specs.Lists.{any}
 use Rattle.words.proofs.Choice.{and-true, and-false}
 use Rattle.table.specs.Value.{no_value, name_in}
-use Rattle.rules.specs.Tests.{right_value, waits_value, rows_test}
+use Rattle.rules.specs.Tests.{right_value, waits_value}
 use Rattle.rules.proofs.Rows.{rows-test-at, rows-test-end, waits-next}
 use Rattle.rules.proofs.rows_right.Goals as goal
 

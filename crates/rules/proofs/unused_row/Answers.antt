@@ -5,7 +5,6 @@ use mathlib.Core.Bool.{Bool}
 use lib.Dec.{eqb}
 use Rattle.words.specs.Choice.{◌and◌}
 use Rattle.rules.specs.Tests.{unused}
-use borrow.Author.Rules.{rules}
 use Rattle.rules.proofs.unused_row.Goals as goal
 
 pub returns : goal.returns

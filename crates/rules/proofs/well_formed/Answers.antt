@@ -1,11 +1,9 @@
 -- `well_formed` meets its contract: its tests together are `well_formed`.
 use mathlib.Core.Path.{◌≡◌, sym, ◌∙◌}
 use mathlib.Core.Bool.{true, false}
-use mathlib.Core.List.{[], map}
-use Prim.Native.Nat.{◌<◌}
+use mathlib.Core.List.{[]}
 use native.Mathlib.Omega.{arith}
-use borrow.Author.Tests.{not-true, not-false}
-use lib.ListN.{length, take, get_or, length-map, get_or-map}
+use lib.ListN.{length, take}
 use Rattle.table.specs.Limits.{most_rows}
 use Rattle.words.proofs.Choice.{and-true, and-false}
 use Rattle.words.proofs.Known.{each_at}
@@ -13,7 +11,6 @@ use Rattle.table.specs.Value.{no_value}
 use Rattle.rules.specs.Tests.{rows_test}
 use Rattle.rules.proofs.Tests.{AllSized, all-sized, size-wrong, tests-are}
 use Rattle.table.specs.contracts.Row as row
-use borrow.Author.Rules.{rules}
 use Rattle.rules.proofs.well_formed.Goals.{Start}
 use Rattle.rules.proofs.well_formed.Goals as goal
 
@@ -27,8 +24,8 @@ sized s = all-sized s.args.table.rows λ i h.
     let f = (each_at (row.the_row).own_val rs _ s.well_formed.0.1.1.0.1.1 i no_value h).1 in
     (f.1.1.0.1.0.1, f.1.1.1.1.1.0.1.0.1)
 
-pub returns-then-len-lt1 : goal.returns-then-len-lt1
-returns-then-len-lt1 c = sym (size-wrong c.args.table (λ h. omega (arith, h.0, c.if-len-lt1.true)))
+pub returns-then-none : goal.returns-then-none
+returns-then-none c = sym (size-wrong c.args.table (λ h. omega (arith, h.0, c.if-none.true)))
 
 pub returns-then-len-gt-ROWS : goal.returns-then-len-gt-ROWS
 returns-then-len-gt-ROWS c = sym (size-wrong c.args.table (λ h. omega (arith, h.1, c.if-len-gt-ROWS.true)))
@@ -37,7 +34,7 @@ pub returns-then-not-rows_right : goal.returns-then-not-rows_right
 returns-then-not-rows_right c =
     let s = (goal.at.returns-then-not-rows_right c).Start in
     let e : rows_test [] (take s.args.table.len s.args.table.rows) ≡ false = sym c.rows_right.ensures ∙ c.if-not-rows_right.true in
-    sym (and-false _ e) ∙ tests-are s.args.table (rows-length s) (sized s) c.if-len-lt1.false c.if-len-gt-ROWS.false
+    sym (and-false _ e) ∙ tests-are s.args.table (rows-length s) (sized s) c.if-none.false c.if-len-gt-ROWS.false
 
 pub returns : goal.returns
 returns c =
@@ -45,4 +42,4 @@ returns c =
     let e : rows_test [] (take s.args.table.len s.args.table.rows) ≡ true = sym c.rows_right.ensures
     ∙ c.if-not-rows_right.false in
     c.rest_unused.ensures ∙ sym (and-true _ e)
-    ∙ tests-are s.args.table (rows-length s) (sized s) c.if-len-lt1.false c.if-len-gt-ROWS.false
+    ∙ tests-are s.args.table (rows-length s) (sized s) c.if-none.false c.if-len-gt-ROWS.false

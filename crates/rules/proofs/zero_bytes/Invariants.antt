@@ -1,12 +1,8 @@
 -- `zero_bytes` meets its contract: what is left decides.
-use mathlib.Core.Path.{◌≡◌, refl, sym, ◌∙◌}
+use mathlib.Core.Path.{◌≡◌}
 use Prim.Native.Nat.{◌-◌, ◌≤◌}
-use borrow.Author.Rules.{rules}
-use borrow.Author.Tests.{eq-eqb, ne_eqb}
 use lib.ListN.{length, drop}
 use Rattle.words.specs.Lists.{is_zero, all}
-use Rattle.words.proofs.Choice.{and-true, and-false}
-use Rattle.words.proofs.Lists.{all-at, all_end}
 use Rattle.rules.proofs.zero_bytes.Given as goal
 
 abbrev pub invariant-loop-i : goal.invariant-loop-i

@@ -1,18 +1,11 @@
 -- `zero_times` meets its contract: what is left decides.
-use mathlib.Core.Bool.{true, false}
-use mathlib.Core.Path.{◌≡◌, refl, sym, ◌∙◌}
+use mathlib.Core.Path.{◌≡◌}
 use mathlib.Core.List.{map}
-use Prim.Native.Nat.{◌-◌, ◌≤◌, ◌<◌}
-use native.Mathlib.Omega.{arith}
-use borrow.Author.Rules.{rules}
-use borrow.Author.Tests.{eq-eqb, ne_eqb}
-use lib.ListN.{length, get_or, drop}
+use Prim.Native.Nat.{◌-◌, ◌≤◌}
+use lib.ListN.{length, drop}
 use Rattle.table.specs.Limits.{most_times}
 use Rattle.words.specs.Lists.{is_zero, all}
-use Rattle.words.proofs.Choice.{and-true, and-false}
-use Rattle.words.proofs.Lists.{all-at, all_end}
 use Rattle.ticks.specs.Ticks.{ticks}
-use Rattle.table.proofs.Rows.{time-at, times-length}
 use Rattle.rules.proofs.zero_times.Given as goal
 
 abbrev pub invariant-loop-i : goal.invariant-loop-i

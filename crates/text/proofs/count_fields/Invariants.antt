@@ -1,12 +1,8 @@
 -- `count_fields` meets its contract: the fields from here on, and those counted so far, are all fields and the one here.
 use Rattle.text.specs.Split.{fields}
-use Rattle.text.proofs.Split.{fields-tab, fields-other, fields-end}
 use mathlib.Core.Path.{◌≡◌}
-use mathlib.Core.Logic.{⊎_elim}
-use Prim.Native.Nat.{◌+◌, ◌-◌, ◌≤◌, ◌<◌}
-use native.Mathlib.Omega.{arith}
+use Prim.Native.Nat.{◌+◌, ◌-◌, ◌≤◌}
 use lib.ListN.{length, drop}
-use borrow.Author.Rules.{rules}
 use Rattle.text.proofs.count_fields.Given as goal
 
 abbrev pub invariant-loop-i : goal.invariant-loop-i

@@ -1,11 +1,8 @@
 -- `find` meets its contract: what is found from here on lies where it is found from the start.
 use Rattle.words.specs.Lists.{up_to}
-use Rattle.words.proofs.Lists.{up_to-at, up_to-here, up_to-end}
-use mathlib.Core.Path.{◌≡◌, refl}
+use mathlib.Core.Path.{◌≡◌}
 use Prim.Native.Nat.{◌+◌, ◌-◌, ◌≤◌}
-use native.Mathlib.Omega.{arith}
 use lib.ListN.{length, drop}
-use borrow.Author.Rules.{rules}
 use Rattle.text.proofs.find.Given as goal
 
 abbrev pub invariant-loop-i : goal.invariant-loop-i

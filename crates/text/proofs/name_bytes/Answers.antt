@@ -4,7 +4,6 @@ use lib.ListN.{replicate}
 use Rattle.words.proofs.Buffer.{copied}
 use Rattle.table.specs.Limits.{longest_name}
 use Rattle.text.proofs.Values.{over_zeros}
-use borrow.Author.Rules.{rules}
 use Rattle.text.proofs.name_bytes.Goals as goal
 
 pub returns : goal.returns

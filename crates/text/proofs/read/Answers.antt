@@ -2,12 +2,10 @@
 use mathlib.Core.Path.{◌≡◌, refl, sym, ap, ◌∙◌}
 use mathlib.Core.Bool.{true, false}
 use mathlib.Core.List.{List}
-use mathlib.Core.Logic.{⊎_elim}
-use Prim.Native.Nat.{ℕ, ◌+◌, ◌-◌, ◌≤◌}
+use Prim.Native.Nat.{ℕ, ◌+◌, ◌≤◌}
 use native.Mathlib.Omega.{arith}
 use lib.ListN.{length, length-take, length-drop}
 use borrow.Author.Rules.{rules}
-use borrow.Author.Tests.{not-true, not-false}
 use Rattle.table.specs.declared.Table.{Table as TableValue}
 use Rattle.refusals.specs.declared.Refusal.{Refusal}
 use Rattle.table.proofs.Rules.{name-length}
@@ -15,7 +13,7 @@ use Rattle.text.specs.declared.Outcome.TheVariants.{Accepted}
 use Rattle.text.specs.Split.{fields}
 use Rattle.text.specs.Read.{refused, bad, right_fields, no_row, read_fields, read_text, reading_of}
 use Rattle.text.proofs.Steps.{no_text, long-text, no-line-feed, text-lines}
-use Rattle.text.proofs.Reader.{AtLine, AtEnd, AtField, AtTab, AtRow, line_at, lines-begin, all_read, refused-many, end-within, refused-waiting, refused-count, refused-field, fields-begin, fields-done, tab-within, field-few, refused-name, refused-number, after-name, after-number, refused-late, refused-long, refused-taken, after-row}
+use Rattle.text.proofs.Reader.{AtEnd, AtTab, AtRow, line_at, lines-begin, all_read, refused-many, end-within, refused-waiting, refused-count, refused-field, fields-begin, fields-done, tab-within, field-few, refused-name, refused-number, after-name, after-number, refused-late, refused-long, refused-taken, after-row}
 use Rattle.table.specs.Value.{row_of}
 use Rattle.text.proofs.Values.{Kept}
 use Rattle.text.specs.Read.{got}
@@ -73,7 +71,7 @@ pub returns-then-len-gt-TEXT : goal.returns-then-len-gt-TEXT
 returns-then-len-gt-TEXT c = c.refused-then-len-gt-TEXT.ensures ∙ ap reading_of (sym (long-text _ c.if-len-eq0.false c.if-len-gt-TEXT.true))
 
 pub returns-then-last-ne-LINE_FEED : goal.returns-then-last-ne-LINE_FEED
-returns-then-last-ne-LINE_FEED c = c.refused-then-last-ne-LINE_FEED.ensures ∙ ap reading_of (sym (no-line-feed _ c.if-len-eq0.false c.if-len-gt-TEXT.false c.if-last-ne-LINE_FEED.true))
+returns-then-last-ne-LINE_FEED c = c.refused-then-last-ne-LINE_FEED.ensures ∙ ap reading_of (sym (no-line-feed _ c.if-len-eq0.false (omega arith) c.if-last-ne-LINE_FEED.true))
 
 pub lines-init : goal.lines-init
 lines-init c = lines-begin _ _ c.empty-table.ensures (text-lines _ c.if-len-eq0.false c.if-len-gt-TEXT.false c.if-last-ne-LINE_FEED.false)

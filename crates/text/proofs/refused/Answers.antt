@@ -1,5 +1,4 @@
 -- `refused` meets its contract: the refusal, and an empty table.
-use borrow.Author.Rules.{rules}
 use Rattle.text.proofs.refused.Goals as goal
 
 pub returns : goal.returns

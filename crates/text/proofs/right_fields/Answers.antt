@@ -5,7 +5,6 @@ use native.Mathlib.Omega.{arith}
 use Rattle.words.specs.Choice.{◌and◌}
 use Rattle.table.specs.Paper.{right_count}
 use Rattle.text.specs.Read.{right_fields, fixed_fields}
-use borrow.Author.Rules.{rules}
 use Rattle.text.proofs.right_fields.Goals as goal
 
 pub returns-then-k-lt-FIXED : goal.returns-then-k-lt-FIXED

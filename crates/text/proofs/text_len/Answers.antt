@@ -1,10 +1,8 @@
 -- `text_len` meets its contract: after each turn it has the length of the lines so far.
-use mathlib.Core.Path.{◌≡◌, refl, ap, ◌∙◌}
-use Prim.Native.Nat.{◌-◌, ◌≤◌}
+use mathlib.Core.Path.{refl, ap, ◌∙◌}
 use native.Mathlib.Nat.{le_antisymm}
 use native.Mathlib.Omega.{arith}
 use lib.ListN.{length}
-use borrow.Author.Rules.{rules}
 use Rattle.words.specs.Lists.{below}
 use Rattle.fields.specs.Fields.{joined}
 use Rattle.fields.proofs.Lines.{joined-grows, joined-room}

@@ -1,7 +1,6 @@
 -- `with_number` meets its contract: the value with one field more is that of the row with one field more.
 use native.Mathlib.Omega.{arith}
 use Rattle.text.proofs.Values.{value-period, value-deadline, value-time}
-use borrow.Author.Rules.{rules}
 use Rattle.text.proofs.with_number.Goals as goal
 
 pub returns-then-f-eq2 : goal.returns-then-f-eq2

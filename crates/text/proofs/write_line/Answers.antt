@@ -3,7 +3,7 @@ use mathlib.Core.Path.{◌≡◌, refl, sym, ap, ◌∙◌}
 use mathlib.Core.List.{List, [], ◌∷◌, ◌++◌, map}
 use Prim.Native.Nat.{ℕ, ◌+◌, ◌≤◌, ◌<◌}
 use native.Mathlib.Omega.{arith}
-use lib.ListN.{length, set, length-append, length-map, length-set}
+use lib.ListN.{length, set, length-append, length-set}
 use Rattle.words.specs.Buffer.{over}
 use Rattle.words.proofs.Buffer.{copied}
 use Rattle.words.proofs.Put.{Put, spliced, put-over, put_byte, put-part, put-within, put-room}

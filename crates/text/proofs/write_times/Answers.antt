@@ -1,11 +1,10 @@
 -- `write_times` meets its contract: after each turn the times so far stand at the front.
 use mathlib.Core.Path.{◌≡◌, ap}
 use mathlib.Core.List.{map}
-use Prim.Native.Nat.{◌+◌, ◌-◌, ◌≤◌}
+use Prim.Native.Nat.{◌+◌, ◌≤◌}
 use native.Mathlib.Nat.{le_antisymm}
 use native.Mathlib.Omega.{arith}
 use lib.ListN.{length, take}
-use borrow.Author.Rules.{rules}
 use Rattle.words.specs.Lists.{below}
 use Rattle.words.proofs.Put.{Put, spliced, put-none, put-within, put-fitted}
 use Rattle.decimal.specs.Decimal.{digits}

@@ -1,5 +1,4 @@
 use borrow.Author.Tests.{le-leb, lt-leb}
-use borrow.Author.Rules.{rules}
 use Rattle.verdicts.proofs.at_most.Goals as goal
 
 pub returns-then-b-d : goal.returns-then-b-d

@@ -1,4 +1,3 @@
-use borrow.Author.Rules.{rules}
 use Rattle.verdicts.proofs.of_one_stretch.Goals as goal
 
 pub returns-in-Is : goal.returns-in-Is

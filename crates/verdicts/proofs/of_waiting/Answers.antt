@@ -1,5 +1,4 @@
 use borrow.Author.Tests.{le-leb, lt-leb}
-use borrow.Author.Rules.{rules}
 use Rattle.verdicts.proofs.of_waiting.Goals as goal
 
 pub returns-in-Is-split : goal.returns-in-Is-split
