@@ -9,7 +9,7 @@ use native.Mathlib.Omega.{arith}
 use lib.ListN.{length, get_or}
 use Rattle.table.specs.Paper.{Row, Table, row_at, Part, part, behind, parts}
 use Rattle.kernel.specs.Rules.{Input, Within, Legal, LegalRun}
-use Rattle.kernel.specs.Numbers.{stretches, stretch, suspension, ticks, pause, taken, suspended, LegalJob, LegalRow, LegalNumbers}
+use Rattle.kernel.specs.Numbers.{stretches, suspension, taken, suspended, LegalJob, LegalRow, LegalNumbers}
 
 -- `Within` by places: of a row's stretches, and of those that a job takes
 record Inside (l m : List Part) : Type 0 where

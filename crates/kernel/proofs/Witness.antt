@@ -2,15 +2,15 @@
 use mathlib.Core.Path.{◌≡◌, refl, sym, subst}
 use mathlib.Core.Bool.{Bool, true, false}
 use mathlib.Core.List.{List, [], ◌∷◌}
-use mathlib.Core.Option.{Option, none, some, some-injective, none-ne-some}
+use mathlib.Core.Option.{some, some-injective, none-ne-some}
 use Prim.Native.Nat.{ℕ, zero, suc, ◌<◌}
 use native.Mathlib.Omega.{arith}
 use lib.Dec.{eqb}
-use lib.ListN.{length, get_or, drop}
+use lib.ListN.{get_or, drop}
 use borrow.Author.Tests.{eqb-true}
 use Rattle.words.specs.Choice.{if◌then◌else◌, ◌and◌, ◌or◌}
 use Rattle.words.specs.Lists.{sum, all, any, same}
-use Rattle.table.specs.Paper.{Row, Table, Part, part, parts, name_byte, right_name, right_number, right_count, right_row, waits, named, right_rows, right_table}
+use Rattle.table.specs.Paper.{Table, Part, part, parts, name_byte, right_name, right_number, right_count, right_row, waits, named, right_rows, right_table}
 use Rattle.kernel.specs.Rules.{Job, job, Within, Apart, LegalRun}
 use Rattle.kernel.specs.Witness.{listed, run_of, once, Allowed, open_table, third_later, TogetherIsNotWorst, TogetherEndsAt12}
 use Rattle.kernel.specs.Witness.{paused_table, less_taken, LessIsAllowed, one_table, seldom, SeldomIsAllowed, full_table, every_t, ExactlyTIsAllowed}

@@ -1,18 +1,17 @@
 -- The full run: document 01, the end of 'The kernel's rules'. Each answer is read off the kernel's rules themselves.
-use Rattle.std.specs.Prelude.{Bool, true, false, List, [], ◌∷◌, ◌++◌, map, ℕ, zero, suc, ◌-◌, ltb, length, replicate}
+use Rattle.std.specs.Prelude.{List, ◌++◌, map, ℕ, ◌-◌, ltb, length, replicate}
 use Rattle.std.proofs.Math.Option.{Option, none, some}
-use Rattle.words.specs.Choice.{if◌then◌else◌, ◌and◌}
+use Rattle.words.specs.Choice.{if◌then◌else◌}
 use Rattle.words.specs.Lists.{below}
 use Rattle.refusals.specs.declared.Refusal.{Refusal}
 use Rattle.refusals.specs.declared.Refusal.TheVariants.{BadTable, ManyTicks}
 use Rattle.table.specs.Limits.{most_rows, most_ticks}
-use Rattle.table.specs.Paper.{Row, Table, row_at}
+use Rattle.table.specs.Paper.{Table, row_at}
 use Rattle.table.specs.Value.{table_of, well_formed}
 use Rattle.table.specs.declared.Table.{Table as TableValue}
 use Rattle.refusals.specs.Refusals.{number_of}
 use Rattle.machine.specs.declared.Outcome.{Outcome}
 use Rattle.machine.specs.declared.Outcome.TheVariants.{Ran, Refused}
-use Rattle.machine.specs.declared.First.{First}
 use Rattle.machine.specs.declared.First.TheVariants.{At, Not}
 use Rattle.machine.specs.declared.Slot.{Slot}
 use Rattle.machine.specs.declared.FullRun.{FullRun}

@@ -31,7 +31,7 @@ use Rattle.kernel.specs.Completion.{completion}
 use Rattle.machine.specs.Run.{slot_of, no_slot, completions, full_run}
 use Rattle.machine.proofs.Completions.{run-there}
 use Rattle.text.proofs.Numbers.{text-refuses}
-use Rattle.musselpath.specs.Boundary.{instant_of, instants, shift, packed, number_in, line_in, field_in, run_answered}
+use Rattle.musselpath.specs.Boundary.{instant_of, instants, shift, number_in, line_in, field_in, run_answered}
 use Rattle.musselpath.specs.Parts.{first_number, numbers_of}
 
 -- a refusal's number is small

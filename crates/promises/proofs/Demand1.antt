@@ -8,24 +8,21 @@ use Prim.Native.Nat.{ℕ, ◌-◌, ◌≤◌, ◌<◌}
 use native.Mathlib.Omega.{arith}
 use native.Mathlib.Decide.{dec_le}
 use lib.Dec.{leb, ltb}
-use lib.ListN.{length, get_or, replicate}
+use lib.ListN.{length, get_or}
 use borrow.Author.Tests.{le-leb, lt-leb, lt-ltb, le-ltb}
 use Rattle.words.specs.Choice.{if◌then◌else◌, ◌and◌}
 use Rattle.words.specs.Lists.{all, any}
 use Rattle.words.specs.Buffer.{over, placed}
-use Rattle.words.proofs.Choice.{if-true, if-false}
 use Rattle.words.proofs.Filled.{filled-behind}
 use Rattle.refusals.specs.declared.Refusal.{Refusal}
 use Rattle.refusals.specs.declared.Refusal.TheVariants.{BadTable, NoSuchRow, NoRoom, ManyTicks}
 use Rattle.refusals.specs.Refusals.{number_of, line_of}
 use Rattle.table.specs.Limits.{most_rows, longest_text, most_ticks}
-use Rattle.table.specs.Paper.{Table, row_at}
-use Rattle.table.specs.Value.{table_of, table_value, empty_table, well_formed}
-use Rattle.table.specs.declared.Table.{Table as TableValue}
+use Rattle.table.specs.Paper.{row_at}
+use Rattle.table.specs.Value.{table_of, empty_table, well_formed}
 use Rattle.table.proofs.Rules.{value-right, value-back, table-right}
 use Rattle.fields.specs.Fields.{line_feed}
 use Rattle.text.specs.declared.Outcome.TheVariants.{Refused as TextRefused}
-use Rattle.text.specs.declared.Written.{Written}
 use Rattle.text.specs.declared.Written.TheVariants.{Bytes, Refused as NotWritten}
 use Rattle.text.specs.Read.{Answer, accepted, refused, read_text, reading_of, number_of_outcome, line_of_outcome, field_of_outcome}
 use Rattle.text.specs.Write.{table_text, length_in, written, written_into, number_of_written}
@@ -33,20 +30,19 @@ use Rattle.text.proofs.Back.{text-right}
 use Rattle.text.proofs.Numbers.{InLines, Fared, empty, long, unended, lined, fared, text-refuses}
 use Rattle.verdicts.specs.declared.Verdict.{Verdict}
 use Rattle.verdicts.specs.Verdicts.{fits, misses, overall}
-use Rattle.verdicts.specs.declared.TableVerdict.{TableVerdict}
 use Rattle.verdicts.specs.declared.TableVerdict.TheVariants.{Fits as TableFits, Misses as TableMisses, Open as TableOpen}
 use Rattle.figures.specs.declared.RowFigures.{RowFigures}
 use Rattle.figures.specs.declared.Answer.TheVariants.{Row as RowIs, Refused as NoFigures}
 use Rattle.figures.specs.declared.TableFigures.{TableFigures}
 use Rattle.figures.specs.Answers.{figures_of, row_answer, verdicts, table_verdict, slots, refused_figures, table_figures, number_of_answer, number_of_verdict}
 use Rattle.report.specs.Report.{report_text, reported, reported_into}
-use Rattle.machine.specs.declared.Outcome.TheVariants.{Ran, Refused as NotRun}
+use Rattle.machine.specs.declared.Outcome.TheVariants.{Ran}
 use Rattle.machine.specs.declared.FullRun.{FullRun}
 use Rattle.machine.specs.Run.{slot_of, completions, refused_run, full_run, number_of_outcome as number_of_run}
 use Rattle.runs.specs.Runs.{run_text, ran_in, ran_into}
 use Rattle.musselpath.specs.Boundary.{instants, answer_for, left_for, run_answered, run_left}
 use Rattle.musselpath.proofs.Answers.{place-comes-out}
-use Rattle.promises.specs.Demands.{reading, text_number, due, Texts, Numbers, Nothing, RunNumbers, Packed, completed}
+use Rattle.promises.specs.Demands.{text_number, due, Texts, Numbers, Nothing, RunNumbers, Packed}
 
 -- texts
 

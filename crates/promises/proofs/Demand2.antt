@@ -1,18 +1,18 @@
 -- Demand 2 of specs/Demands, shown.
 use mathlib.Core.Path.{◌≡◌, refl, sym, ap, ◌∙◌, subst}
 use mathlib.Core.Bool.{Bool, true, false, false≢true}
-use mathlib.Core.List.{List, [], ◌∷◌, ◌++◌, map}
+use mathlib.Core.List.{List, [], ◌∷◌, map}
 use mathlib.Core.Logic.Iff
 use mathlib.Core.Logic.{◌↔◌}
 use mathlib.Core.Option.{Option, none, some, some-injective, none-ne-some}
-use Prim.Native.Nat.{ℕ, zero, suc, ◌+◌, ◌-◌, ◌≤◌, ◌<◌}
+use Prim.Native.Nat.{ℕ, ◌+◌, ◌-◌, ◌≤◌, ◌<◌}
 use native.Mathlib.Omega.{arith}
 use native.Mathlib.Decide.{dec_le}
 use lib.Dec.{leb, ltb}
 use lib.ListN.{length, take, get_or, replicate, length-map, length-append, length-replicate}
 use lib.Seq.{take-append_seam, take_all, length-take-le}
 use borrow.Author.Tests.{le-leb, lt-leb, le-ltb}
-use Rattle.words.specs.Choice.{if◌then◌else◌, ◌and◌}
+use Rattle.words.specs.Choice.{if◌then◌else◌}
 use Rattle.words.specs.Lists.{all, any, below}
 use Rattle.words.specs.Spelled.{spelled}
 use Rattle.words.specs.Buffer.{over, placed}
@@ -27,13 +27,12 @@ use Rattle.refusals.specs.declared.Refusal.TheVariants.{BadTable, NoSuchRow, NoR
 use Rattle.refusals.specs.Refusals.{number_of, line_of, field_of}
 use Rattle.refused.specs.Refused.{refused_line}
 use Rattle.table.specs.Limits.{most_rows, longest_text, most_ticks}
-use Rattle.table.specs.Paper.{Row, Table, row_at, Part, part, parts, total, waits, right_row}
+use Rattle.table.specs.Paper.{Table, row_at, Part, part, parts, total, waits, right_row}
 use Rattle.table.specs.Value.{table_of, table_value, well_formed}
 use Rattle.table.specs.declared.Table.{Table as TableValue}
 use Rattle.table.proofs.Rules.{value-forth, value-back, value-right, table-right, table-size}
 use Rattle.text.specs.declared.Outcome.TheVariants.{Accepted}
 use Rattle.text.specs.declared.Reading.{Reading}
-use Rattle.text.specs.declared.Written.{Written}
 use Rattle.text.specs.declared.Written.TheVariants.{Bytes, Refused as NotWritten}
 use Rattle.text.specs.Read.{Answer, accepted, refused, read_text, reading_of, number_of_outcome, line_of_outcome, field_of_outcome}
 use Rattle.text.specs.Write.{table_text, length_in, written, written_into, number_of_written}
@@ -42,20 +41,17 @@ use Rattle.text.proofs.Forth.{text-forth}
 use Rattle.text.proofs.Fits.{text-fits}
 use Rattle.text.proofs.Numbers.{text-refuses, Fared, empty, long as too_many, unended, lined, fared}
 use Rattle.verdicts.specs.Verdicts.{figure_of, fits, misses, overall}
-use Rattle.verdicts.specs.declared.Bound.{Bound}
 use Rattle.verdicts.specs.declared.Bound.TheVariants.{Whole, Split}
-use Rattle.verdicts.specs.declared.Figure.{Figure}
 use Rattle.verdicts.specs.declared.Figure.TheVariants.{Is, No}
 use Rattle.verdicts.specs.declared.Verdict.{Verdict}
 use Rattle.verdicts.specs.declared.Verdict.TheVariants.{Fits, Misses, Open}
-use Rattle.verdicts.specs.declared.TableVerdict.{TableVerdict as Overall}
 use Rattle.verdicts.specs.declared.TableVerdict.TheVariants.{Fits as TableFits, Misses as TableMisses, Open as TableOpen}
 use Rattle.figures.specs.declared.RowFigures.{RowFigures}
 use Rattle.figures.specs.declared.Slot.{Slot}
 use Rattle.figures.specs.declared.TableFigures.{TableFigures}
 use Rattle.figures.specs.declared.Answer.TheVariants.{Row as RowIs, Refused as NoFigures}
-use Rattle.recurrence.specs.Fixed.{Smallest, Took}
-use Rattle.recurrence.specs.Figures.{right, result, rounds, own, whole, plus, split, split_from, split_rounds, verdict, with_split, row_rounds, unless_none}
+use Rattle.recurrence.specs.Fixed.{Took}
+use Rattle.recurrence.specs.Figures.{result, rounds, own, whole, plus, split, split_from, split_rounds, verdict, with_split, row_rounds, unless_none}
 use Rattle.figures.specs.Answers.{split_shown, figures_of, row_answer, verdicts, table_verdict, slot_of, slots, table_figures}
 use Rattle.recurrence.proofs.Rows.{sane, one_time, more-times}
 use Rattle.recurrence.proofs.Verdicts.{stretch-none, stretch-took, whole-took}
@@ -63,7 +59,7 @@ use Rattle.recurrence.proofs.Verdicts.{split-some, stretch-fixed, whole-fixed, o
 use Rattle.recurrence.proofs.Verdicts.{waiting-split, waiting-open, waiting-misses}
 use Rattle.report.specs.Report.{report_text, answer_to, answer_text, reported, reported_into, longest_report}
 use Rattle.report.proofs.Fits.{answer-fits}
-use Rattle.runs.specs.Runs.{run_text, ran_in, ran_into, longest_run}
+use Rattle.runs.specs.Runs.{run_text, ran_in, ran_into}
 use Rattle.runs.proofs.Fits.{run_fits}
 use Rattle.musselpath.specs.Boundary.{instants, answer_for, left_for, run_answered, run_left}
 use Rattle.promises.specs.Demands.{reading, text_number, answered_in, answered_into, due, row, f, Told, Added, no_more, one_more}
@@ -72,7 +68,7 @@ use Rattle.promises.specs.Demands.{Given, WholeBound, SplitBound, OneStretch, Wa
 use Rattle.promises.proofs.Finish.{Positive}
 use Rattle.promises.proofs.Proper.{positive}
 use Rattle.promises.proofs.Demand1.{refused-text}
-use Rattle.promises.proofs.Told.{Asked, asked, told, right-table, there, right-rows}
+use Rattle.promises.proofs.Told.{Asked, asked, told, there, right-rows}
 
 never : {A : Type 0} → ◌≡◌ {A = ℕ} 0 1 → A
 never e = absurd (omega arith)

@@ -1,10 +1,10 @@
 -- Demand 3 of specs/Demands, shown.
 use mathlib.Core.Path.{◌≡◌, refl, sym, ap, ◌∙◌}
-use mathlib.Core.Bool.{true, false}
+use mathlib.Core.Bool.{true}
 use mathlib.Core.List.{List, [], ◌∷◌}
 use mathlib.Core.Logic.{◌↔◌}
 use mathlib.Core.Option.{Option, none, some}
-use Prim.Native.Nat.{ℕ, ◌+◌, ◌-◌, ◌≤◌, ◌<◌}
+use Prim.Native.Nat.{ℕ, ◌-◌, ◌≤◌, ◌<◌}
 use native.Mathlib.Omega.{arith}
 use native.Mathlib.Decide.{dec_le}
 use lib.ListN.{length, get_or}
@@ -13,7 +13,7 @@ use Rattle.ticks.specs.Ticks.{instant}
 use Rattle.ticks.specs.declared.Length.{Length}
 use Rattle.ticks.specs.declared.Instant.{Instant}
 use Rattle.table.specs.Limits.{most_ticks}
-use Rattle.table.specs.Paper.{Row, row_at, Part, parts, waits}
+use Rattle.table.specs.Paper.{Row, row_at, Part, parts}
 use Rattle.table.specs.Value.{table_of, well_formed}
 use Rattle.table.specs.declared.Table.{Table as TableValue}
 use Rattle.table.proofs.Rules.{value-forth, number-range, row-period}
@@ -30,9 +30,9 @@ use Rattle.kernel.proofs.Ended.{complete-same, completion-same}
 use Rattle.machine.specs.declared.First.TheVariants.{At, Not}
 use Rattle.machine.specs.declared.FullRun.{FullRun}
 use Rattle.machine.specs.declared.Slot.{Slot}
-use Rattle.machine.specs.Run.{slot_of, completions, full_run}
+use Rattle.machine.specs.Run.{slot_of, completions}
 use Rattle.machine.proofs.Completions.{run-there}
-use Rattle.promises.specs.Demands.{row, Told, Added, no_more, one_more, completed, InTime, FullRunLegal, Ended, Exact, Missed}
+use Rattle.promises.specs.Demands.{row, Added, no_more, one_more, completed, InTime, FullRunLegal, Ended, Exact, Missed}
 use Rattle.promises.proofs.Fits.{fits-deadline, fits-in-time}
 use Rattle.promises.proofs.Exact.{full-legal, exact-before, exact-from, exact-misses}
 use Rattle.promises.proofs.Told.{Asked, asked, right-table, there, right-rows}

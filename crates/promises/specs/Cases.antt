@@ -2,12 +2,12 @@
 use Rattle.std.specs.Prelude.{◌≡◌, refl, List, [], ◌∷◌, map, ℕ, ◌-◌}
 use Rattle.std.proofs.Math.Option.{Option, none, some}
 use Prim.Native.String.{String}
-use Rattle.words.specs.Choice.{if◌then◌else◌, ◌and◌, ◌or◌}
+use Rattle.words.specs.Choice.{◌and◌, ◌or◌}
 use Rattle.words.specs.Lists.{all, any, sum, same, up_to, padded, below}
 use Rattle.words.specs.Spelled.{spelled}
 use Rattle.decimal.specs.Decimal.{digits, last_digits, digit, value, leads, read_number}
 use Rattle.table.specs.Limits.{largest_number}
-use Rattle.table.specs.Paper.{Row, Table, row_at, parts, waits, named, name_byte, right_name, right_number, right_count, right_row, right_rows, right_table}
+use Rattle.table.specs.Paper.{Table, row_at, parts, waits, named, name_byte, right_name, right_number, right_count, right_row, right_rows, right_table}
 use Rattle.table.specs.Value.{table_of, table_value, same_row, same_rows, well_formed}
 use Rattle.ticks.specs.Ticks.{long}
 use Rattle.fields.specs.Fields.{fields_text, line, joined}

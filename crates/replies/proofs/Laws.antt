@@ -1,20 +1,18 @@
 -- What the library's functions put into a buffer that has room is the program's answer.
 use mathlib.Core.Path.{◌≡◌, refl, sym, ap, ◌∙◌}
-use mathlib.Core.Bool.{Bool, true, false}
+use mathlib.Core.Bool.{true}
 use mathlib.Core.List.{List, []}
 use Prim.Native.Nat.{ℕ, ◌-◌, ◌≤◌, ◌<◌}
 use native.Mathlib.Omega.{arith}
 use native.Mathlib.Decide.{dec_le}
-use lib.Dec.{leb, ltb}
 use lib.ListN.{length, take, drop, length-drop}
 use lib.Seq.{length-take-le, take_all}
 use borrow.Author.Tests.{lt-ltb, le-ltb}
-use Rattle.words.specs.Choice.{if◌then◌else◌}
 use Rattle.words.specs.Buffer.{over, placed}
 use Rattle.words.proofs.Buffer.{over-nil, length_over, placed-fits}
 use Rattle.words.proofs.Choice.{if-true, if-false}
 use Rattle.refusals.specs.declared.Refusal.{Refusal}
-use Rattle.refusals.specs.declared.Refusal.TheVariants.{ManyTicks, NoRoom}
+use Rattle.refusals.specs.declared.Refusal.TheVariants.{ManyTicks}
 use Rattle.table.specs.Limits.{longest_text, most_ticks}
 use Rattle.table.specs.Value.{table_of, well_formed}
 use Rattle.text.specs.declared.Written.{Written}

@@ -1,7 +1,6 @@
 -- `ended` meets its contract: no sum leaves 64 bits.
 use mathlib.Core.Path.{◌∙◌}
 use borrow.Author.Tests.{eq-eqb, ne_eqb}
-use borrow.Author.Rules.{rules}
 use Rattle.machine.specs.Tick.{ended_of}
 use Rattle.machine.proofs.Laws.{later-is}
 use Rattle.machine.proofs.ended.Goals as goal

@@ -1,9 +1,7 @@
 -- `firsts_of` meets its contract: the machine and what is noted go on tick by tick.
 use mathlib.Core.Path.{◌≡◌, refl, sym, ◌∙◌, ap, subst}
-use mathlib.Core.Logic.{⊎_elim}
-use Prim.Native.Nat.{◌+◌, ◌-◌, ◌≤◌}
+use Prim.Native.Nat.{◌+◌, ◌≤◌}
 use native.Mathlib.Omega.{arith}
-use borrow.Author.Rules.{rules}
 use Rattle.table.specs.Limits.{most_rows}
 use Rattle.machine.specs.declared.Machine.{Machine}
 use Rattle.machine.specs.Tick.{tick_of, ticked}

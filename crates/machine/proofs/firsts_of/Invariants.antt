@@ -1,15 +1,8 @@
 -- `firsts_of` meets its contract: the machine and what is noted go on tick by tick.
-use mathlib.Core.Path.{◌≡◌, refl, sym, ◌∙◌, ap, subst}
-use mathlib.Core.Logic.{⊎_elim}
-use Prim.Native.Nat.{◌+◌, ◌-◌, ◌≤◌}
-use native.Mathlib.Omega.{arith}
-use borrow.Author.Rules.{rules}
-use Rattle.table.specs.Limits.{most_rows}
-use Rattle.machine.specs.declared.Machine.{Machine}
-use Rattle.machine.specs.Tick.{tick_of, ticked}
-use Rattle.machine.specs.Noted.{note_of, firsts_after}
-use Rattle.machine.specs.Safe.{Safe}
-use Rattle.machine.proofs.Laws.{ticked-next, firsts-next, noted-row, noted-none}
+use mathlib.Core.Path.{◌≡◌}
+use Prim.Native.Nat.{◌-◌, ◌≤◌}
+use Rattle.machine.specs.Tick.{ticked}
+use Rattle.machine.specs.Noted.{firsts_after}
 use Rattle.machine.proofs.firsts_of.Given as goal
 
 abbrev pub invariant-loop-k : goal.invariant-loop-k

@@ -1,7 +1,7 @@
 -- `lane_of` meets its contract: the times are put at the front, and the period last.
 use mathlib.Core.List.{append_assoc, List, [], ◌∷◌, ◌++◌, map}
 use mathlib.Core.Path.{◌≡◌, refl, sym, ◌∙◌, ap}
-use Prim.Native.Nat.{ℕ, ◌+◌, ◌-◌, ◌≤◌}
+use Prim.Native.Nat.{ℕ, ◌+◌, ◌-◌}
 use native.Mathlib.Omega.{arith}
 use borrow.Author.Rules.{rules}
 use lib.ListN.{length-append, length, take, set, replicate, length-map, length-set}

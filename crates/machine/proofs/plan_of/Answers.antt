@@ -1,11 +1,9 @@
 -- `plan_of` meets its contract, row by row.
-use mathlib.Core.Path.{◌≡◌, refl, sym, ◌∙◌}
-use mathlib.Core.List.{List, ◌++◌, map}
-use Prim.Native.Nat.{ℕ, ◌+◌, ◌-◌, ◌≤◌}
+use mathlib.Core.Path.{◌≡◌, refl, ◌∙◌}
 use native.Mathlib.Omega.{arith}
 use borrow.Author.Rules.{rules}
-use lib.ListN.{length, take, replicate, length-map, length-set}
-use Rattle.table.specs.Limits.{most_rows, most_times}
+use lib.ListN.{length, length-set}
+use Rattle.table.specs.Limits.{most_rows}
 use Rattle.table.specs.Value.{no_value}
 use Rattle.machine.specs.Tick.{lane_of, plan_of}
 use Rattle.words.proofs.Filled.{filled_next, filled-all}

@@ -1,14 +1,10 @@
 -- `plan_of` meets its contract, row by row.
-use mathlib.Core.Path.{◌≡◌, refl, sym, ◌∙◌}
+use mathlib.Core.Path.{◌≡◌}
 use mathlib.Core.List.{List, ◌++◌, map}
 use Prim.Native.Nat.{ℕ, ◌+◌, ◌-◌, ◌≤◌}
-use native.Mathlib.Omega.{arith}
-use borrow.Author.Rules.{rules}
-use lib.ListN.{length, take, replicate, length-map, length-set}
+use lib.ListN.{length, take, replicate}
 use Rattle.table.specs.Limits.{most_rows, most_times}
-use Rattle.table.specs.Value.{no_value}
-use Rattle.machine.specs.Tick.{lane_of, plan_of}
-use Rattle.words.proofs.Filled.{filled_next, filled-all}
+use Rattle.machine.specs.Tick.{lane_of}
 use Rattle.machine.proofs.plan_of.Given as goal
 
 -- a lane that is still to be made

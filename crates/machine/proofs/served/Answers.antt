@@ -2,7 +2,6 @@
 use mathlib.Core.Path.{◌≡◌, sym, ◌∙◌, ap, subst}
 use Prim.Native.Nat.{◌+◌}
 use borrow.Author.Tests.{lt-ltb, le-ltb}
-use borrow.Author.Rules.{rules}
 use Rattle.ticks.specs.declared.Instant.{Instant}
 use Rattle.machine.specs.Tick.{ended_of, served_of}
 use Rattle.ticks.specs.Ticks.{instant}

@@ -1,18 +1,15 @@
 -- `slots_of` meets its contract, row by row.
 use mathlib.Core.Path.{◌≡◌, refl, ◌∙◌, ap}
-use mathlib.Core.List.{List, ◌++◌, map}
+use mathlib.Core.List.{◌++◌, map}
 use mathlib.Core.Option.{none}
-use Prim.Native.Nat.{ℕ, ◌-◌, ◌≤◌}
+use Prim.Native.Nat.{ℕ, ◌-◌}
 use native.Mathlib.Omega.{arith}
 use borrow.Author.Rules.{rules}
-use lib.ListN.{length, get_or, set, replicate, length-set}
+use lib.ListN.{set, replicate, length-set}
 use Rattle.words.specs.Lists.{below}
-use Rattle.ticks.specs.declared.Instant.{Instant}
 use Rattle.table.specs.Limits.{most_rows}
-use Rattle.machine.specs.declared.Slot.{Slot}
 use Rattle.machine.specs.Run.{slot_of}
-use Rattle.ticks.specs.Ticks.{instant}
-use Rattle.machine.specs.Noted.{completion_of, slots_of}
+use Rattle.machine.specs.Noted.{slots_of}
 use Rattle.words.proofs.Filled.{fill-next}
 use Rattle.machine.proofs.slots_of.Invariants.{shown}
 use Rattle.machine.proofs.slots_of.Goals as goal

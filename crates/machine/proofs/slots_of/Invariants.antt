@@ -1,19 +1,16 @@
 -- `slots_of` meets its contract, row by row.
-use mathlib.Core.Path.{◌≡◌, refl, ◌∙◌, ap}
+use mathlib.Core.Path.{◌≡◌}
 use mathlib.Core.List.{List, ◌++◌, map}
 use mathlib.Core.Option.{none}
 use Prim.Native.Nat.{ℕ, ◌-◌, ◌≤◌}
-use native.Mathlib.Omega.{arith}
-use borrow.Author.Rules.{rules}
-use lib.ListN.{length, get_or, set, replicate, length-set}
+use lib.ListN.{length, get_or, replicate}
 use Rattle.words.specs.Lists.{below}
 use Rattle.ticks.specs.declared.Instant.{Instant}
 use Rattle.table.specs.Limits.{most_rows}
 use Rattle.machine.specs.declared.Slot.{Slot}
 use Rattle.machine.specs.Run.{slot_of}
 use Rattle.ticks.specs.Ticks.{instant}
-use Rattle.machine.specs.Noted.{completion_of, slots_of}
-use Rattle.words.proofs.Filled.{fill-next}
+use Rattle.machine.specs.Noted.{completion_of}
 use Rattle.machine.proofs.slots_of.Given as goal
 
 -- the answer of a row

@@ -4,7 +4,6 @@ use Rattle.text.proofs.Numbers.{text-refuses}
 use Rattle.text.proofs.Back.{reading-accepted, reading-refused}
 use Rattle.musselpath.specs.Boundary.{run_answered, run_left}
 use mathlib.Core.Path.{refl}
-use borrow.Author.Rules.{rules}
 use Rattle.musselpath.proofs.musselpath_full_run.Goals as goal
 
 pub run-requires : goal.run-requires

@@ -2,7 +2,6 @@
 use mathlib.Core.Path.{sym, ◌∙◌}
 use Rattle.report.specs.Report.{answer_text}
 use Rattle.musselpath.proofs.Answers.{bytes-fitted, refused-fitted}
-use borrow.Author.Rules.{rules}
 use Rattle.musselpath.proofs.musselpath_report.Goals as goal
 
 pub returns-in-Bytes : goal.returns-in-Bytes

@@ -10,7 +10,6 @@ use Rattle.refusals.specs.Refusals.{number_of, line_of, field_of}
 use Rattle.fields.specs.Fields.{fields_text}
 use Rattle.fields.proofs.Lines.{fields-none, fields-length}
 use Rattle.refused.proofs.Lines.{place_none, place-there}
-use borrow.Author.Rules.{rules}
 use Rattle.refused.proofs.place_len.Goals.{After-width, After-width-2}
 use Rattle.refused.proofs.place_len.Goals as goal
 

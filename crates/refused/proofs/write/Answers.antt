@@ -16,7 +16,6 @@ use Rattle.text.specs.declared.Written.TheVariants.{Bytes}
 use Rattle.text.proofs.Writer.{length-short, length_whole}
 use Rattle.refused.specs.Refused.{place_of, refused_line}
 use Rattle.refused.proofs.Lines.{refused-parts, refused-length}
-use borrow.Author.Rules.{rules}
 use Rattle.refused.proofs.write.Goals.{After-place_len, After-slice_known-2-1, After-slice_known-3-1, After-slice_known-4-1, Else-out-width, Start}
 use Rattle.refusals.specs.declared.Refusal.{Refusal}
 use Rattle.refused.proofs.write.Goals as goal

@@ -1,6 +1,5 @@
 -- `item_run` meets its contract.
 use Rattle.replies.proofs.Laws.{item-short, item-whole}
-use borrow.Author.Rules.{rules}
 use Rattle.replies.proofs.item_run.Goals as goal
 
 pub returns-then-item-lt-TICKS : goal.returns-then-item-lt-TICKS

@@ -1,7 +1,6 @@
 -- `line_of` meets its contract: the line has room.
 use Rattle.refused.specs.Refused.{refused_line}
 use Rattle.replies.proofs.Laws.{put_whole, put-never-refused}
-use borrow.Author.Rules.{rules}
 use Rattle.replies.proofs.line_of.Goals as goal
 
 pub returns-in-Bytes : goal.returns-in-Bytes

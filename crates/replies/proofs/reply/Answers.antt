@@ -1,5 +1,4 @@
 -- `reply` meets its contract.
-use borrow.Author.Rules.{rules}
 use Rattle.replies.proofs.reply.Goals as goal
 
 pub returns-in-Report : goal.returns-in-Report

@@ -1,6 +1,5 @@
 -- `report_of` meets its contract: every answer has room.
 use mathlib.Core.Path.{◌≡◌}
-use mathlib.Core.List.{List}
 use Prim.Native.Nat.{◌≤◌}
 use native.Mathlib.Omega.{arith}
 use lib.ListN.{length}
@@ -8,7 +7,6 @@ use Rattle.table.specs.Limits.{longest_text}
 use Rattle.report.specs.Report.{answer_text}
 use Rattle.replies.proofs.Fits.{report-room}
 use Rattle.replies.proofs.Laws.{replied, put_whole, put-never-refused}
-use borrow.Author.Rules.{rules}
 use Rattle.replies.proofs.report_of.Goals.{After-answer-arg-1}
 use Rattle.replies.proofs.report_of.Goals as goal
 

@@ -1,11 +1,10 @@
 -- `run_of` meets its contract: every answer has room.
-use mathlib.Core.Path.{◌≡◌, sym, ap, ◌∙◌}
+use mathlib.Core.Path.{◌≡◌, ap, ◌∙◌}
 use mathlib.Core.List.{List}
 use Prim.Native.Nat.{ℕ, ◌≤◌}
 use native.Mathlib.Omega.{arith}
 use lib.ListN.{length}
 use Rattle.words.specs.Buffer.{over}
-use Rattle.table.specs.Limits.{longest_text}
 use Rattle.refused.specs.Refused.{refused_line}
 use Rattle.replies.specs.Replies.{run_answer}
 use Rattle.replies.proofs.Fits.{run_room}

@@ -1,7 +1,6 @@
 -- `table_text` meets its contract: the text has room.
 use mathlib.Core.Path.{sym, ◌∙◌}
 use Rattle.text.proofs.Writer.{written-whole, bytes_same, refused_none}
-use borrow.Author.Rules.{rules}
 use Rattle.replies.proofs.table_text.Goals as goal
 
 pub returns-in-Bytes : goal.returns-in-Bytes

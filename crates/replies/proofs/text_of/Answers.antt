@@ -1,15 +1,12 @@
 -- `text_of` meets its contract: every answer has room.
-use mathlib.Core.Path.{◌≡◌, sym, ap, ◌∙◌}
-use mathlib.Core.List.{List}
+use mathlib.Core.Path.{◌≡◌, ap}
 use Prim.Native.Nat.{◌≤◌}
 use native.Mathlib.Omega.{arith}
 use lib.ListN.{length}
-use Rattle.words.specs.Buffer.{over}
 use Rattle.table.specs.Limits.{longest_text}
 use Rattle.replies.specs.Replies.{text_answer}
 use Rattle.replies.proofs.Fits.{text-room}
 use Rattle.replies.proofs.Laws.{replied, text-accepted, text-refused}
-use borrow.Author.Rules.{rules}
 use Rattle.replies.proofs.text_of.Goals.{Start}
 use Rattle.replies.proofs.text_of.Goals as goal
 

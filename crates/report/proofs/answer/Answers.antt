@@ -1,6 +1,5 @@
 -- `answer` meets its contract.
 use Rattle.report.proofs.Tables.{read-accepted, read-refused}
-use borrow.Author.Rules.{rules}
 use Rattle.report.proofs.answer.Goals as goal
 
 pub write_report-requires : goal.write_report-requires

@@ -8,7 +8,6 @@ use lib.ListN.{length}
 use Rattle.decimal.specs.Decimal.{digits}
 use Rattle.table.specs.Value.{row_of}
 use Rattle.report.proofs.Lines.{row-length}
-use borrow.Author.Rules.{rules}
 use Rattle.report.proofs.answer_len.Goals.{After-figure_len, After-figure_len-in-Row, After-figure_len-in-Row-2, After-name_len, After-verdict_len, After-width, In-Row}
 use Rattle.report.proofs.answer_len.Goals as goal
 

@@ -1,5 +1,4 @@
 -- `figure_len` meets its contract.
-use borrow.Author.Rules.{rules}
 use Rattle.report.proofs.figure_len.Goals as goal
 
 pub returns-in-Is : goal.returns-in-Is

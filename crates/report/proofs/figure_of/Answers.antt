@@ -1,5 +1,4 @@
 -- `figure_of` meets its contract.
-use borrow.Author.Rules.{rules}
 use Rattle.report.proofs.figure_of.Goals as goal
 
 pub returns-in-Fits : goal.returns-in-Fits

@@ -1,6 +1,5 @@
 use Rattle.fields.specs.Fields.{fields_text, line}
 use Rattle.report.specs.Report.{last_line}
-use borrow.Author.Rules.{rules}
 use Rattle.report.proofs.last_len.Goals as goal
 
 pub returns-in-Fits : goal.returns-in-Fits

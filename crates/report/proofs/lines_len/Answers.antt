@@ -1,9 +1,9 @@
 -- `lines_len` meets its contract: after each turn the lines so far are measured.
-use mathlib.Core.Path.{◌≡◌, refl, sym, ap, ◌∙◌}
-use Prim.Native.Nat.{◌-◌, ◌≤◌}
+use mathlib.Core.Path.{◌≡◌, refl, ap, ◌∙◌}
+use Prim.Native.Nat.{◌≤◌}
 use native.Mathlib.Omega.{arith}
 use native.Mathlib.Nat.{le_antisymm}
-use lib.ListN.{length, length-map}
+use lib.ListN.{length}
 use Rattle.words.specs.Lists.{below}
 use Rattle.fields.specs.Fields.{joined}
 use Rattle.fields.proofs.Lines.{joined-grows, joined-room}

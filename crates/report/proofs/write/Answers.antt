@@ -1,8 +1,6 @@
 -- `write` meets its contract.
 use mathlib.Core.Path.{sym, ◌∙◌}
-use borrow.Author.Tests.{not-true, not-false}
 use Rattle.report.proofs.Tables.{reported-bad, reported-right}
-use borrow.Author.Rules.{rules}
 use Rattle.report.proofs.write.Goals as goal
 
 pub returns-then-not-well_formed : goal.returns-then-not-well_formed

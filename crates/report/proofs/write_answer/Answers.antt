@@ -1,7 +1,6 @@
 -- `write_answer` meets its contract.
 use mathlib.Core.Path.{refl, sym}
 use Rattle.words.proofs.Buffer.{over-nil}
-use borrow.Author.Rules.{rules}
 use Rattle.report.proofs.write_answer.Goals as goal
 
 pub write_row-requires : goal.write_row-requires

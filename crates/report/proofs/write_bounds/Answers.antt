@@ -9,7 +9,6 @@ use Rattle.fields.specs.Fields.{fields_text}
 use Rattle.fields.proofs.Lines.{fields-front, put-field, put-fields}
 use Rattle.report.specs.Report.{figure_text}
 use Rattle.report.specs.Parts.{bounds_text}
-use borrow.Author.Rules.{rules}
 use Rattle.report.proofs.write_bounds.Goals.{After-slice_known-2-1, After-slice_known-3-1, After-slice_known-4-1, Start}
 use Rattle.report.proofs.write_bounds.Goals as goal
 

@@ -1,5 +1,4 @@
 -- `write_figure` meets its contract.
-use borrow.Author.Rules.{rules}
 use Rattle.report.proofs.write_figure.Goals as goal
 
 pub returns-in-Is : goal.returns-in-Is

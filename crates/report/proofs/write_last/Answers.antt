@@ -10,7 +10,6 @@ use Rattle.words.proofs.Put.{Put, spliced, put-over, put_byte, put-within}
 use Rattle.fields.specs.Fields.{line_feed, fields_text, line}
 use Rattle.fields.proofs.Lines.{line-length, put-field, put-start}
 use Rattle.report.specs.Report.{table_word, last_line}
-use borrow.Author.Rules.{rules}
 use Rattle.report.proofs.write_last.Goals.{After-slice_known-2-1, After-slice_known-3-1, Start}
 use Rattle.report.proofs.write_last.Goals as goal
 

@@ -12,7 +12,6 @@ use Rattle.text.proofs.Writer.{length-short, length_whole}
 use Rattle.report.specs.Report.{last_line, report_text, longest_report}
 use Rattle.report.specs.Parts.{lines_text}
 use Rattle.report.proofs.Tables.{report-parts, report-lengths, report-short, rows_few}
-use borrow.Author.Rules.{rules}
 use Rattle.report.proofs.write_report.Goals.{After-last_len, After-slice_known-2-1, After-slice_known-3-1, After-table_figures-figures, Else-out-lines_len, Start}
 use Rattle.report.proofs.write_report.Goals as goal
 

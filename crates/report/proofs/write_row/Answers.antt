@@ -10,7 +10,6 @@ use Rattle.table.specs.Value.{row_of}
 use Rattle.report.specs.Report.{row_line}
 use Rattle.report.specs.Parts.{judged_text, bounds_text}
 use Rattle.report.proofs.Lines.{row-parts}
-use borrow.Author.Rules.{rules}
 use Rattle.report.proofs.write_row.Goals.{After-slice_known-2-1, After-slice_known-3-1, Start}
 use Rattle.report.proofs.write_row.Goals as goal
 

@@ -1,5 +1,4 @@
 -- `write_table_verdict` meets its contract.
-use borrow.Author.Rules.{rules}
 use Rattle.report.proofs.write_table_verdict.Goals as goal
 
 pub returns-in-Fits : goal.returns-in-Fits

@@ -1,7 +1,6 @@
 -- `answer` meets its contract.
 use mathlib.Core.Path.{refl}
 use Rattle.text.proofs.Back.{reading-accepted, reading-refused}
-use borrow.Author.Rules.{rules}
 use Rattle.runs.proofs.answer.Goals as goal
 
 pub write_run-requires : goal.write_run-requires

@@ -1,5 +1,4 @@
 -- `first_len` meets its contract.
-use borrow.Author.Rules.{rules}
 use Rattle.runs.proofs.first_len.Goals as goal
 
 pub returns-in-At : goal.returns-in-At

@@ -1,16 +1,8 @@
 -- `lines_len` meets its contract: after each turn the lines so far are measured.
-use mathlib.Core.Path.{◌≡◌, refl, sym, ap, ◌∙◌}
+use mathlib.Core.Path.{◌≡◌}
 use Prim.Native.Nat.{◌-◌, ◌≤◌}
-use native.Mathlib.Omega.{arith}
-use native.Mathlib.Nat.{le_antisymm}
-use lib.ListN.{length, length-map}
-use Rattle.words.specs.Lists.{below}
-use Rattle.fields.specs.Fields.{joined}
-use Rattle.fields.proofs.Lines.{joined-grows, joined-room}
-use Rattle.table.specs.Limits.{most_rows}
-use Rattle.runs.specs.Runs.{longest_run}
-use Rattle.runs.specs.Parts.{line_at, lines_text}
-use Rattle.runs.proofs.Tables.{read_at, line_read}
+use lib.ListN.{length}
+use Rattle.runs.specs.Parts.{lines_text}
 use Rattle.runs.proofs.lines_len.Given as goal
 
 abbrev pub invariant-loop-i : goal.invariant-loop-i

@@ -7,7 +7,6 @@ use Rattle.table.specs.Value.{row_of}
 use Rattle.runs.specs.Runs.{longest_run}
 use Rattle.runs.specs.Parts.{first_text}
 use Rattle.runs.proofs.Fits.{two_fields}
-use borrow.Author.Rules.{rules}
 use Rattle.runs.proofs.row_len.Goals.{Start}
 use Rattle.runs.proofs.row_len.Goals as goal
 

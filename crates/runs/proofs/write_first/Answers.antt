@@ -1,5 +1,4 @@
 -- `write_first` meets its contract.
-use borrow.Author.Rules.{rules}
 use Rattle.runs.proofs.write_first.Goals as goal
 
 pub returns-in-At : goal.returns-in-At

@@ -1,17 +1,16 @@
 -- `write_lines` meets its contract: after each turn the lines so far stand at the front.
-use mathlib.Core.Path.{◌≡◌, sym, ap, ◌∙◌}
-use Prim.Native.Nat.{◌+◌, ◌-◌, ◌≤◌}
+use mathlib.Core.Path.{◌≡◌, ap}
+use Prim.Native.Nat.{◌+◌, ◌≤◌}
 use native.Mathlib.Omega.{arith}
 use native.Mathlib.Nat.{le_antisymm}
-use lib.ListN.{length, length-map}
+use lib.ListN.{length}
 use Rattle.words.specs.Lists.{below}
-use Rattle.words.proofs.Put.{Put, put-none, put-part, put-within, put-room}
+use Rattle.words.proofs.Put.{put-none, put-part, put-within, put-room}
 use Rattle.fields.specs.Fields.{joined}
 use Rattle.fields.proofs.Lines.{joined-next, joined-room}
 use Rattle.table.specs.Limits.{most_rows}
 use Rattle.runs.specs.Parts.{line_at, lines_text}
 use Rattle.runs.proofs.Tables.{read_at, line_read}
-use borrow.Author.Rules.{rules}
 use Rattle.runs.proofs.write_lines.Goals.{After-slot-1, In-loop-i}
 use Rattle.runs.proofs.write_lines.Goals as goal
 

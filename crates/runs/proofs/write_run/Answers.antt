@@ -11,9 +11,7 @@ use Rattle.text.specs.declared.Written.TheVariants.{Bytes}
 use Rattle.text.proofs.Writer.{length-short, length_whole}
 use Rattle.table.proofs.Used.{len-most}
 use Rattle.runs.specs.Runs.{run_text}
-use Rattle.runs.specs.Parts.{lines_text}
 use Rattle.runs.proofs.Tables.{ran-lines, ran-short, answer-ran, answer-refused}
-use borrow.Author.Rules.{rules}
 use Rattle.runs.proofs.write_run.Goals.{After-lines_len, In-Ran, Start}
 use Rattle.runs.proofs.write_run.Goals as goal
 

@@ -1,10 +1,9 @@
 -- `Machine::start` meets its contract: each cell is that of its row's first job.
-use mathlib.Core.Path.{◌≡◌, refl, ◌∙◌}
-use mathlib.Core.List.{[], ◌++◌, map}
-use Prim.Native.Nat.{◌-◌, ◌≤◌}
+use mathlib.Core.Path.{refl, ◌∙◌}
+use mathlib.Core.List.{[]}
 use native.Mathlib.Omega.{arith}
 use borrow.Author.Rules.{rules}
-use lib.ListN.{length, take, replicate, length-set}
+use lib.ListN.{length-set}
 use Rattle.table.specs.Limits.{most_rows}
 use Rattle.machine.specs.Tick.{cell_of, start_of}
 use Rattle.ticks.specs.Ticks.{instant}

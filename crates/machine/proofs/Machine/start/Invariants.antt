@@ -1,14 +1,10 @@
 -- `Machine::start` meets its contract: each cell is that of its row's first job.
-use mathlib.Core.Path.{◌≡◌, refl, ◌∙◌}
+use mathlib.Core.Path.{◌≡◌}
 use mathlib.Core.List.{[], ◌++◌, map}
 use Prim.Native.Nat.{◌-◌, ◌≤◌}
-use native.Mathlib.Omega.{arith}
-use borrow.Author.Rules.{rules}
-use lib.ListN.{length, take, replicate, length-set}
+use lib.ListN.{length, take, replicate}
 use Rattle.table.specs.Limits.{most_rows}
-use Rattle.machine.specs.Tick.{cell_of, start_of}
-use Rattle.ticks.specs.Ticks.{instant}
-use Rattle.words.proofs.Filled.{filled_next, filled-all}
+use Rattle.machine.specs.Tick.{cell_of}
 use Rattle.machine.proofs.Machine.start.Given as goal
 
 abbrev pub invariant-loop-i : goal.invariant-loop-i

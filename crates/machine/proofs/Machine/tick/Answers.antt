@@ -1,12 +1,11 @@
 -- `Machine::tick` meets its contract: the search finds the highest ready row, and only its cell changes.
 use mathlib.Core.Path.{◌≡◌, refl, sym, ◌∙◌, ap, subst}
 use mathlib.Core.List.{List, []}
-use mathlib.Core.Logic.{⊎_elim}
-use Prim.Native.Nat.{◌+◌, ◌-◌, ◌≤◌}
+use Prim.Native.Nat.{◌+◌, ◌≤◌}
 use native.Mathlib.Omega.{arith}
 use borrow.Author.Rules.{rules}
 use borrow.Author.Tests.{le-leb, lt-leb}
-use lib.ListN.{length, take, drop, get_or, length-map}
+use lib.ListN.{length, take, get_or}
 use Rattle.table.specs.Limits.{most_rows}
 use Rattle.machine.specs.declared.Cell.{Cell}
 use Rattle.machine.specs.Tick.{highest, runs, cells_of, tick_of}
