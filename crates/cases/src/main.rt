@@ -3,6 +3,11 @@
 
 use replies::Kind;
 
-fn main() {
-    vectors::answer_all(Kind::Report);
+fn main(rt: HostRuntime) {
+    vectors::answer_all(
+        &mut rt.stdin(),
+        &mut rt.stdout(),
+        &mut rt.stderr(),
+        Kind::Report,
+    );
 }

@@ -1,34 +1,40 @@
 // What the programs write: an answer to standard output, and words about trouble to standard error.
 #![tactic(auto)]
 
+ghost use Rattle.std.specs.Prelude.{◌≡◌, ◌<◌, length};
+ghost use Rattle.std.specs.Io.KnownBytes.{Appends, Keeps};
 ghost use Rattle.output.specs.Output.{AllOrNone};
 
-use libc::{STDERR_FILENO, STDOUT_FILENO};
+use std::io::Write;
 
 // Writes bytes, and answers how many: all of them, or 0 where a write failed.
-fn write(to: i32, bytes: &[u8]) -> usize
-    ensures { AllOrNone result bytes.now }
+fn write<W: Write>(to: &mut W, bytes: &[u8]) -> usize
+    ensures count { AllOrNone result bytes.now }
+    ensures bytes { 0 < result → Appends (W.contents to.old) (W.contents to.new) bytes.now }
 {
-    if io::write_all(to, bytes) {
+    if to.write_all(bytes).is_ok() {
         return bytes.len();
     }
     0
 }
 
 // Says what is wrong, on standard error.
-pub fn say(words: &[u8]) -> usize
-    ensures { AllOrNone result words.now }
+pub fn say<E: Write>(stderr: &mut E, words: &[u8]) -> usize
+    ensures count { AllOrNone result words.now }
+    ensures bytes { 0 < result → Appends (E.contents stderr.old) (E.contents stderr.new) words.now }
 {
-    write(STDERR_FILENO, words)
+    write(stderr, words)
 }
 
 // Writes an answer to standard output, and says where that failed.
-pub fn put(answer: &[u8]) -> usize
-    ensures { AllOrNone result answer.now }
+pub fn put<W: Write, E: Write>(stdout: &mut W, stderr: &mut E, answer: &[u8]) -> usize
+    ensures count { AllOrNone result answer.now }
+    ensures bytes { 0 < result → Appends (W.contents stdout.old) (W.contents stdout.new) answer.now }
+    ensures quiet { result ≡ length answer.now → Keeps (E.contents stderr.old) (E.contents stderr.new) }
 {
-    let done = write(STDOUT_FILENO, answer);
+    let done = write(stdout, answer);
     if done < answer.len() {
-        say(b"standard output cannot be written\n");
+        say(stderr, b"standard output cannot be written\n");
     }
     done
 }

@@ -4,6 +4,11 @@
 
 use replies::Kind;
 
-fn main() {
-    vectors::answer_all(Kind::Run);
+fn main(rt: HostRuntime) {
+    vectors::answer_all(
+        &mut rt.stdin(),
+        &mut rt.stdout(),
+        &mut rt.stderr(),
+        Kind::Run,
+    );
 }
