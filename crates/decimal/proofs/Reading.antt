@@ -1,4 +1,5 @@
 -- What is written reads back (`number_digits`), what is accepted was written so (`digits_number`), and what a reader goes by.
+use Rattle.std.specs.Prelude.{if◌then◌else◌}
 use mathlib.Core.Path.{◌≡◌, refl, sym, ap, ◌∙◌}
 use mathlib.Core.List.{List, [], ◌∷◌, ◌++◌, append_assoc, append-nil}
 use mathlib.Core.Bool.{Bool, true, false, not, false≢true}
@@ -10,7 +11,7 @@ use lib.Dec.{leb, eqb}
 use lib.ListN.{length, get_or, drop, drop_of_length-le}
 use lib.Seq.{drop-cons}
 use borrow.Author.Tests.{leb-true, eqb-false, le-leb, lt-leb, eq-eqb, ne_eqb, not-true}
-use Rattle.words.specs.Choice.{if◌then◌else◌, ◌and◌}
+use Rattle.words.specs.Choice.{◌and◌}
 use Rattle.words.specs.Lists.{all}
 use Rattle.words.proofs.Choice.{and_parts, and_both, and-false, and-last-false, if-true, if-false}
 use Rattle.decimal.specs.Decimal.{digits, digit, value, leads, read_number}

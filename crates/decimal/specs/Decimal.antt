@@ -1,6 +1,6 @@
 -- Decimal numbers as bytes: how a number is written, and what bytes read as.
-use Rattle.std.specs.Prelude.{Bool, true, false, not, List, [], ◌∷◌, ◌++◌, ℕ, zero, suc, ◌+◌, ◌-◌, ◌*◌, ◌/◌, ◌%◌, ltb, leb, eqb}
-use Rattle.words.specs.Choice.{if◌then◌else◌, ◌and◌}
+use Rattle.std.specs.Prelude.{Bool, true, false, not, List, [], ◌∷◌, ◌++◌, ℕ, zero, suc, ◌+◌, ◌-◌, ◌*◌, ◌/◌, ◌%◌, ltb, leb, eqb, if◌then◌else◌}
+use Rattle.words.specs.Choice.{◌and◌}
 use Rattle.words.specs.Lists.{all}
 use Rattle.decimal.specs.declared.Number.{Number}
 use Rattle.decimal.specs.declared.Number.TheVariants.{Is, No}

@@ -1,7 +1,7 @@
 -- The library's answers about figures, as values.
-use Rattle.std.specs.Prelude.{List, [], ◌∷◌, ◌++◌, map, ℕ, ◌-◌, leb, length, replicate}
+use Rattle.std.specs.Prelude.{List, [], ◌∷◌, ◌++◌, map, ℕ, ◌-◌, leb, length, replicate, if◌then◌else◌}
 use Rattle.std.proofs.Math.Option.{Option, none}
-use Rattle.words.specs.Choice.{if◌then◌else◌, ◌and◌}
+use Rattle.words.specs.Choice.{◌and◌}
 use Rattle.words.specs.Lists.{below}
 use Rattle.refusals.specs.Refusals.{number_of}
 use Rattle.refusals.specs.declared.Refusal.{Refusal}

@@ -1,4 +1,5 @@
 -- Which jobs are complete, and when the first one is: specs/Rules and specs/Completion say the same as specs/Numbers.
+use Rattle.std.specs.Prelude.{if◌then◌else◌}
 use mathlib.Core.Path.{◌≡◌, refl, sym, ap, ◌∙◌, subst}
 use mathlib.Core.Bool.{Bool, true, false, false≢true}
 use mathlib.Core.List.{List, [], ◌∷◌}
@@ -8,7 +9,6 @@ use Prim.Native.Nat.{ℕ, zero, suc, ◌≤◌, ◌<◌}
 use native.Mathlib.Decide.{dec_le}
 use native.Mathlib.Omega.{arith}
 use borrow.Author.Tests.{ltb-true, lt-ltb}
-use Rattle.words.specs.Choice.{if◌then◌else◌}
 use Rattle.words.proofs.Choice.{and_parts, and_both, if-true}
 use Rattle.table.specs.Paper.{Row, Part}
 use Rattle.kernel.specs.Rules.{Job, job, after, full, Complete}

@@ -1,4 +1,5 @@
 -- The runs of specs/Witness: each is allowed or not, and goes as it says.
+use Rattle.std.specs.Prelude.{if◌then◌else◌}
 use mathlib.Core.Path.{◌≡◌, refl, sym, subst}
 use mathlib.Core.Bool.{Bool, true, false}
 use mathlib.Core.List.{List, [], ◌∷◌}
@@ -8,7 +9,7 @@ use native.Mathlib.Omega.{arith}
 use lib.Dec.{eqb}
 use lib.ListN.{get_or, drop}
 use borrow.Author.Tests.{eqb-true}
-use Rattle.words.specs.Choice.{if◌then◌else◌, ◌and◌, ◌or◌}
+use Rattle.words.specs.Choice.{◌and◌, ◌or◌}
 use Rattle.words.specs.Lists.{sum, all, any, same}
 use Rattle.table.specs.Paper.{Table, Part, part, parts, name_byte, right_name, right_number, right_count, right_row, waits, named, right_rows, right_table}
 use Rattle.kernel.specs.Rules.{Job, job, Within, Apart, LegalRun}

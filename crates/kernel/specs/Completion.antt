@@ -1,7 +1,7 @@
 -- The completion of a row's first job in the full run: document 01, the end of 'The kernel's rules'.
-use Rattle.std.specs.Prelude.{Bool, true, List, [], ◌∷◌, ℕ, zero, suc, ltb}
+use Rattle.std.specs.Prelude.{Bool, true, List, [], ◌∷◌, ℕ, zero, suc, ltb, if◌then◌else◌}
 use Rattle.std.proofs.Math.Option.{Option, none, some}
-use Rattle.words.specs.Choice.{if◌then◌else◌, ◌and◌}
+use Rattle.words.specs.Choice.{◌and◌}
 use Rattle.table.specs.Paper.{Row}
 use Rattle.kernel.specs.Rules.{Job, job, after, full}
 

@@ -1,7 +1,6 @@
 -- The kernel's rules: document 01, 'The kernel's rules'. Time is whole ticks; tick n lies between the instants n and n + 1.
-use Rattle.std.specs.Prelude.{◌≡◌, Bool, true, false, not, ◌&&◌, List, [], ◌∷◌, ◌++◌, ℕ, zero, suc, ◌+◌, ◌%◌, ◌≤◌, ◌<◌, eqb, length}
+use Rattle.std.specs.Prelude.{◌≡◌, Bool, true, false, not, ◌&&◌, List, [], ◌∷◌, ◌++◌, ℕ, zero, suc, ◌+◌, ◌%◌, ◌≤◌, ◌<◌, eqb, length, if◌then◌else◌}
 use Rattle.std.proofs.Math.Option.{Option, none, some}
-use Rattle.words.specs.Choice.{if◌then◌else◌}
 use Rattle.table.specs.Paper.{Row, Table, row_at, Part, part, parts}
 
 -- a job: its release, and the stretches that are left of it, each with the suspension before it; in an allowed run never none

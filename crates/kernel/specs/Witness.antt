@@ -1,10 +1,9 @@
 -- Runs that the kernel's rules allow, and runs that they do not, with what happens in them, on both sides of each rule. That the set of the
 -- allowed runs is the one of document 01 is what specs/Numbers says of all runs; these are the ones to look at. Rows are written "T D times",
 -- as in 01, and counted from 0. proofs/Witness shows each of them.
-use Rattle.std.specs.Prelude.{◌≡◌, true, List, [], ◌∷◌, ℕ, ◌+◌, ◌-◌, eqb, get_or}
+use Rattle.std.specs.Prelude.{◌≡◌, true, List, [], ◌∷◌, ℕ, ◌+◌, ◌-◌, eqb, get_or, if◌then◌else◌}
 use Rattle.std.proofs.Math.Option.{Option, none, some}
 use Prim.Native.String.{String}
-use Rattle.words.specs.Choice.{if◌then◌else◌}
 use Rattle.words.specs.Spelled.{spelled}
 use Rattle.table.specs.Paper.{Row, Table, row_at, Part, part, right_table}
 use Rattle.kernel.specs.Rules.{Job, job, Input, after, full, LegalRun, Complete}

@@ -1,4 +1,5 @@
 -- What the full run notes of its rows are the completions that the kernel's rules give.
+use Rattle.std.specs.Prelude.{if◌then◌else◌}
 use mathlib.Core.Path.{◌≡◌, refl, sym, ◌∙◌, ap, subst}
 use mathlib.Core.Bool.{Bool, true, false}
 use mathlib.Core.List.{List, [], ◌++◌, map}
@@ -11,7 +12,7 @@ use borrow.Author.Tests.{lt-ltb, le-ltb, eq-eqb, ne_eqb, eqb-true, eqb-false}
 use lib.Dec.{eqb, ltb}
 use lib.ListN.{length, get_or, set, replicate, length-set, get_or-replicate, get_or-map}
 use lib.Seq.{get_or-set_same, get_or-set_other}
-use Rattle.words.specs.Choice.{if◌then◌else◌, ◌and◌}
+use Rattle.words.specs.Choice.{◌and◌}
 use Rattle.words.specs.Lists.{below}
 use Rattle.words.proofs.Choice.{and_both, if-true, if-false}
 use Rattle.ticks.specs.declared.Instant.{Instant}

@@ -1,4 +1,5 @@
 -- How the code goes on: a sum that stays within 64 bits, the search for the highest ready row, what is noted, one tick after the other.
+use Rattle.std.specs.Prelude.{if◌then◌else◌}
 use mathlib.Core.Path.{◌≡◌, sym, ◌∙◌, ap}
 use mathlib.Core.Bool.{true, false}
 use mathlib.Core.List.{List, [], ◌∷◌}
@@ -10,7 +11,6 @@ use borrow.Author.Tests.{lt-ltb, le-ltb}
 use lib.Dec.{ltb, leb}
 use lib.ListN.{length, take, drop, get_or, set, drop_of_length-le}
 use lib.Seq.{drop-cons, get_or-take, length-take-le}
-use Rattle.words.specs.Choice.{if◌then◌else◌}
 use Rattle.ticks.specs.Ticks.{most, later_by, long, instant}
 use Rattle.ticks.specs.declared.Instant.{Instant}
 use Rattle.ticks.specs.declared.Length.{Length}

@@ -1,4 +1,5 @@
 -- The machine of the full run stands for the kernel's rules, step for step.
+use Rattle.std.specs.Prelude.{if◌then◌else◌}
 use mathlib.Core.Path.{◌≡◌, refl, sym, ◌∙◌, ap, subst}
 use mathlib.Core.Bool.{Bool, true, false, not, ◌&&◌, true≢false}
 use mathlib.Core.List.{List, [], ◌∷◌}
@@ -10,7 +11,6 @@ use borrow.Author.Tests.{lt-ltb, le-leb, lt-leb, leb-true, leb-false}
 use lib.Dec.{ltb, leb}
 use lib.ListN.{length, take, get_or, set, length-set, length-map, get_or-map}
 use lib.Seq.{get_or-take, length-take-le, get_or-set_same, get_or-set_other}
-use Rattle.words.specs.Choice.{if◌then◌else◌}
 use Rattle.ticks.specs.declared.Instant.{Instant}
 use Rattle.table.specs.Paper.{Table, row_at}
 use Rattle.table.specs.Value.{table_of, well_formed}

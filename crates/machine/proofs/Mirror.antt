@@ -1,4 +1,5 @@
 -- One row of the full run: its cell stands for its queue of the kernel's rules, before a tick, with the tick's release, and after the tick.
+use Rattle.std.specs.Prelude.{if◌then◌else◌}
 use mathlib.Core.Path.{◌≡◌, refl, sym, ◌∙◌, ap}
 use mathlib.Core.Bool.{Bool, true, false}
 use mathlib.Core.List.{List, [], ◌∷◌, ◌++◌}
@@ -11,7 +12,6 @@ use borrow.Author.Tests.{lt-ltb, le-ltb, le-leb, lt-leb, eq-eqb, ne_eqb, eqb-tru
 use lib.Dec.{eqb, leb}
 use lib.ListN.{length, drop, get_or, get_or-eq_default, drop_of_length-le}
 use lib.Seq.{drop-cons}
-use Rattle.words.specs.Choice.{if◌then◌else◌}
 use Rattle.ticks.specs.declared.Instant.{Instant}
 use Rattle.table.specs.Limits.{most_times}
 use Rattle.table.specs.Paper.{Row, Part, part, behind, parts}

@@ -1,7 +1,6 @@
 -- What the full run notes of each row's first job. proofs/Link shows that it is its completion.
-use Rattle.std.specs.Prelude.{List, ◌++◌, map, ℕ, zero, suc, ◌-◌, ltb, get_or, set, replicate}
+use Rattle.std.specs.Prelude.{List, ◌++◌, map, ℕ, zero, suc, ◌-◌, ltb, get_or, set, replicate, if◌then◌else◌}
 use Rattle.std.proofs.Math.Option.{Option, none, some}
-use Rattle.words.specs.Choice.{if◌then◌else◌}
 use Rattle.words.specs.Lists.{is_zero, below}
 use Rattle.ticks.specs.declared.Instant.{Instant}
 use Rattle.table.specs.Limits.{most_rows}

@@ -1,7 +1,6 @@
 -- The full run: document 01, the end of 'The kernel's rules'. Each answer is read off the kernel's rules themselves.
-use Rattle.std.specs.Prelude.{List, ◌++◌, map, ℕ, ◌-◌, ltb, length, replicate}
+use Rattle.std.specs.Prelude.{List, ◌++◌, map, ℕ, ◌-◌, ltb, length, replicate, if◌then◌else◌}
 use Rattle.std.proofs.Math.Option.{Option, none, some}
-use Rattle.words.specs.Choice.{if◌then◌else◌}
 use Rattle.words.specs.Lists.{below}
 use Rattle.refusals.specs.declared.Refusal.{Refusal}
 use Rattle.refusals.specs.declared.Refusal.TheVariants.{BadTable, ManyTicks}

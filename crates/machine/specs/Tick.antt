@@ -1,6 +1,5 @@
 -- One tick of the machine, and the machine after k ticks. proofs/Link shows that it goes by the kernel's rules.
-use Rattle.std.specs.Prelude.{List, [], ◌∷◌, ◌++◌, map, ℕ, zero, suc, ◌+◌, ◌-◌, ltb, leb, take, get_or, set}
-use Rattle.words.specs.Choice.{if◌then◌else◌}
+use Rattle.std.specs.Prelude.{List, [], ◌∷◌, ◌++◌, map, ℕ, zero, suc, ◌+◌, ◌-◌, ltb, leb, take, get_or, set, if◌then◌else◌}
 use Rattle.words.specs.Lists.{is_zero}
 use Rattle.ticks.specs.Ticks.{instant, ticks, long}
 use Rattle.ticks.specs.declared.Instant.{Instant}

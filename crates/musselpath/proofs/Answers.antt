@@ -1,4 +1,5 @@
 -- What the parts of the code answer is what the definitions say.
+use Rattle.std.specs.Prelude.{if◌then◌else◌}
 use mathlib.Core.Path.{◌≡◌, refl, sym, ap, ◌∙◌}
 use mathlib.Core.Bool.{Bool, true, false}
 use mathlib.Core.List.{List, [], ◌∷◌, ◌++◌, map}
@@ -8,7 +9,6 @@ use native.Mathlib.Omega.{arith}
 use native.Mathlib.Numerals.{add-one}
 use lib.Dec.{leb}
 use lib.ListN.{length, get_or, replicate, length-map, length-append, length-replicate}
-use Rattle.words.specs.Choice.{if◌then◌else◌}
 use Rattle.words.specs.Buffer.{fitted}
 use Rattle.words.specs.Lists.{below}
 use Rattle.words.proofs.Lists.{get_d_any}

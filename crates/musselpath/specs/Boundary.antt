@@ -1,7 +1,6 @@
 -- What the C functions answer, and what they leave in the lent buffer.
-use Rattle.std.specs.Prelude.{List, map, ℕ, ◌+◌, ◌*◌, ◌/◌, ◌%◌, ltb, length}
+use Rattle.std.specs.Prelude.{List, map, ℕ, ◌+◌, ◌*◌, ◌/◌, ◌%◌, ltb, length, if◌then◌else◌}
 use Rattle.std.proofs.Math.Option.{Option, none, some}
-use Rattle.words.specs.Choice.{if◌then◌else◌}
 use Rattle.words.specs.Lists.{below}
 use Rattle.words.specs.Buffer.{over}
 use Rattle.refusals.specs.declared.Refusal.{Refusal}

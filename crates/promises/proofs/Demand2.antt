@@ -1,4 +1,5 @@
 -- Demand 2 of specs/Demands, shown.
+use Rattle.std.specs.Prelude.{if◌then◌else◌}
 use mathlib.Core.Path.{◌≡◌, refl, sym, ap, ◌∙◌, subst}
 use mathlib.Core.Bool.{Bool, true, false, false≢true}
 use mathlib.Core.List.{List, [], ◌∷◌, map}
@@ -12,7 +13,6 @@ use lib.Dec.{leb, ltb}
 use lib.ListN.{length, take, get_or, replicate, length-map, length-append, length-replicate}
 use lib.Seq.{take-append_seam, take_all, length-take-le}
 use borrow.Author.Tests.{le-leb, lt-leb, le-ltb}
-use Rattle.words.specs.Choice.{if◌then◌else◌}
 use Rattle.words.specs.Lists.{all, any, below}
 use Rattle.words.specs.Spelled.{spelled}
 use Rattle.words.specs.Buffer.{over, placed}

@@ -1,4 +1,5 @@
 -- Exactness: in the full run the first job of a row of one C is complete at exactly R, or is not complete by D.
+use Rattle.std.specs.Prelude.{if◌then◌else◌}
 use mathlib.Core.Path.{◌≡◌, refl, ap, ◌∙◌, subst}
 use mathlib.Core.Bool.{Bool, true, false}
 use mathlib.Core.List.{List, [], ◌∷◌, ◌++◌}
@@ -10,7 +11,6 @@ use native.Mathlib.Omega.{arith}
 use lib.Dec.{eqb}
 use lib.ListN.{length}
 use borrow.Author.Tests.{eqb-true, eq-eqb}
-use Rattle.words.specs.Choice.{if◌then◌else◌}
 use Rattle.words.proofs.Choice.{if-true}
 use Rattle.ticks.specs.declared.Length.{Length}
 use Rattle.table.specs.Paper.{Row, Table, row_at, Part, part, parts, work, total, waits, right_row, right_table}

@@ -1,4 +1,5 @@
 -- The page of places, specs/Places, shown.
+use Rattle.std.specs.Prelude.{if◌then◌else◌}
 use mathlib.Core.Path.{◌≡◌, refl, sym, ap, ◌∙◌}
 use mathlib.Core.Bool.{Bool, true, false, not, false≢true}
 use mathlib.Core.List.{List, [], ◌∷◌, ◌++◌, map, append_assoc, append-nil}
@@ -7,7 +8,7 @@ use native.Mathlib.Omega.{arith}
 use lib.Dec.{eqb, ltb, leb}
 use lib.ListN.{length, get_or, length-append, length-map}
 use borrow.Author.Tests.{eqb-true, eqb-false, ne_eqb, ltb-true, ltb-false, lt-ltb, le-ltb, lt-leb, not-true}
-use Rattle.words.specs.Choice.{if◌then◌else◌, ◌and◌, ◌or◌}
+use Rattle.words.specs.Choice.{◌and◌, ◌or◌}
 use Rattle.words.specs.Lists.{sum, all, any}
 use Rattle.words.proofs.Choice.{and_parts, and_both, and-false, and-last-false}
 use Rattle.words.proofs.Lists.{lacks}

@@ -1,9 +1,9 @@
 -- The processor time that is left for a row, by what is taken above it. No table and no machine.
+use Rattle.std.specs.Prelude.{if◌then◌else◌}
 use mathlib.Core.Path.{◌≡◌, refl, ap}
 use mathlib.Core.Bool.{Bool, true, false}
 use Prim.Native.Nat.{ℕ, zero, suc, ◌+◌, ◌-◌, ◌≤◌, ◌<◌}
 use native.Mathlib.Omega.{arith}
-use Rattle.words.specs.Choice.{if◌then◌else◌}
 
 -- 1 where the test holds
 abbrev pub bit : Bool → ℕ

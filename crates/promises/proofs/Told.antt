@@ -1,4 +1,5 @@
 -- What an answer about a row says of the question: the table is well-formed, and the row is there.
+use Rattle.std.specs.Prelude.{if◌then◌else◌}
 use mathlib.Core.Path.{◌≡◌, refl, ◌∙◌}
 use mathlib.Core.Bool.{Bool, true, false}
 use Prim.Native.Nat.{ℕ, ◌-◌, ◌≤◌, ◌<◌}
@@ -6,7 +7,7 @@ use native.Mathlib.Omega.{arith}
 use lib.Dec.{leb}
 use lib.ListN.{length}
 use borrow.Author.Tests.{leb-true, le-leb}
-use Rattle.words.specs.Choice.{if◌then◌else◌, ◌and◌}
+use Rattle.words.specs.Choice.{◌and◌}
 use Rattle.words.proofs.Choice.{if-true, and_parts, and_both}
 use Rattle.refusals.specs.declared.Refusal.TheVariants.{BadTable, NoSuchRow}
 use Rattle.table.specs.Paper.{row_at, right_row, right_table}

@@ -2,8 +2,8 @@
 -- text::read is `reading`, text::write is `written` and `written_into`, figures::row_figures is `row_answer`, figures::table_figures is
 -- `table_figures`, report::write is `reported` and `reported_into`, report::answer is `answered_in` and `answered_into`, machine::full_run is
 -- `full_run`, runs::answer is `ran_in` and `ran_into`, the C functions are `fitted` and `placed` of `answer_text`, `run_answered` and `run_left`: the contracts say so.
-use Rattle.std.specs.Prelude.{◌≡◌, Bool, true, false, List, [], ◌∷◌, ◌↔◌, ℕ, ◌+◌, ◌-◌, ◌≤◌, ◌<◌, leb, length, take, get_or}
-use Rattle.words.specs.Choice.{if◌then◌else◌, ◌and◌}
+use Rattle.std.specs.Prelude.{◌≡◌, Bool, true, false, List, [], ◌∷◌, ◌↔◌, ℕ, ◌+◌, ◌-◌, ◌≤◌, ◌<◌, leb, length, take, get_or, if◌then◌else◌}
+use Rattle.words.specs.Choice.{◌and◌}
 use Rattle.words.specs.Buffer.{over, placed}
 use Rattle.words.specs.Spelled.{spelled}
 use Rattle.ticks.specs.Ticks.{instant, long}

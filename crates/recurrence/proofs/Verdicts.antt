@@ -1,4 +1,5 @@
 -- What the figures of a right row say: each bound, each verdict and the rounds, as document 01 has them.
+use Rattle.std.specs.Prelude.{if◌then◌else◌}
 use mathlib.Core.Path.{◌≡◌, refl, sym, ap, ◌∙◌}
 use mathlib.Core.Bool.{Bool, true, false}
 use mathlib.Core.List.{List, [], ◌∷◌}
@@ -10,7 +11,6 @@ use native.Mathlib.Omega.{arith}
 use lib.Dec.{leb}
 use borrow.Author.Tests.{leb-true, leb-false, le-leb}
 use Rattle.ticks.specs.declared.Length.{Length}
-use Rattle.words.specs.Choice.{if◌then◌else◌}
 use Rattle.words.proofs.Choice.{if-true}
 use Rattle.table.specs.Paper.{Row, Part, parts, right_row, waits}
 use Rattle.ticks.specs.Ticks.{long}

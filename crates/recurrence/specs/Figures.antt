@@ -1,7 +1,7 @@
 -- The figures: document 01, 'The figures'. Row k is counted from 0; the rows above it are 0 to k - 1.
-use Rattle.std.specs.Prelude.{Bool, true, false, List, [], ◌∷◌, ℕ, zero, suc, ◌+◌, ◌-◌, ◌*◌, ◌/◌, eqb, ltb, length}
+use Rattle.std.specs.Prelude.{Bool, true, false, List, [], ◌∷◌, ℕ, zero, suc, ◌+◌, ◌-◌, ◌*◌, ◌/◌, eqb, ltb, length, if◌then◌else◌}
 use Rattle.std.proofs.Math.Option.{Option, none, some}
-use Rattle.words.specs.Choice.{if◌then◌else◌, ◌or◌}
+use Rattle.words.specs.Choice.{◌or◌}
 use Rattle.table.specs.Paper.{Row, Part, part, parts, work, total}
 use Rattle.verdicts.specs.Verdicts.{at_most, single, lesser}
 use Rattle.verdicts.specs.declared.Verdict.{Verdict}

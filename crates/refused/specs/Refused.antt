@@ -1,6 +1,5 @@
 -- The line of a refusal: document 01, 'The report'.
-use Rattle.std.specs.Prelude.{List, [], ◌∷◌, ℕ, leb}
-use Rattle.words.specs.Choice.{if◌then◌else◌}
+use Rattle.std.specs.Prelude.{List, [], ◌∷◌, ℕ, leb, if◌then◌else◌}
 use Rattle.words.specs.Spelled.{spelled}
 use Rattle.decimal.specs.Decimal.{digits}
 use Rattle.fields.specs.Fields.{line}

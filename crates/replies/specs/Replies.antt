@@ -1,6 +1,5 @@
 -- What the programs answer: the bytes of each whole answer.
-use Rattle.std.specs.Prelude.{◌≡◌, List, [], ℕ, ◌+◌, ◌*◌, ◌≤◌, ltb, length, take, drop, get_or}
-use Rattle.words.specs.Choice.{if◌then◌else◌}
+use Rattle.std.specs.Prelude.{◌≡◌, List, [], ℕ, ◌+◌, ◌*◌, ◌≤◌, ltb, length, take, drop, get_or, if◌then◌else◌}
 use Rattle.refusals.specs.declared.Refusal.TheVariants.{ManyTicks}
 use Rattle.table.specs.Limits.{most_ticks}
 use Rattle.text.specs.Read.{Answer, accepted, refused, read_text}

@@ -1,6 +1,5 @@
 -- The report: document 01, 'The report'.
-use Rattle.std.specs.Prelude.{List, [], ◌∷◌, ◌++◌, map, ℕ, ◌+◌, ◌*◌, length}
-use Rattle.words.specs.Choice.{if◌then◌else◌}
+use Rattle.std.specs.Prelude.{List, [], ◌∷◌, ◌++◌, map, ℕ, ◌+◌, ◌*◌, length, if◌then◌else◌}
 use Rattle.words.specs.Lists.{below}
 use Rattle.words.specs.Spelled.{spelled}
 use Rattle.words.specs.Buffer.{placed}

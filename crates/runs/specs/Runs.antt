@@ -1,7 +1,6 @@
 -- The full run in text: of each row its name and the completion instant of its first job.
-use Rattle.std.specs.Prelude.{List, [], ◌∷◌, map, ℕ, ◌+◌, ◌*◌, ltb, length}
+use Rattle.std.specs.Prelude.{List, [], ◌∷◌, map, ℕ, ◌+◌, ◌*◌, ltb, length, if◌then◌else◌}
 use Rattle.std.proofs.Math.Option.{Option, none, some}
-use Rattle.words.specs.Choice.{if◌then◌else◌}
 use Rattle.words.specs.Lists.{below}
 use Rattle.words.specs.Spelled.{spelled}
 use Rattle.words.specs.Buffer.{placed}

@@ -1,4 +1,5 @@
 -- Every accepted text reads to a right table (`text-right`), whose text it is (`text-back`): so a table has exactly one text (`text-one`).
+use Rattle.std.specs.Prelude.{if◌then◌else◌}
 use mathlib.Core.Path.{◌≡◌, refl, sym, ap, ◌∙◌}
 use mathlib.Core.Bool.{Bool, true, false, false≢true}
 use mathlib.Core.List.{List, [], ◌∷◌, ◌++◌, map, append_assoc, append-nil}
@@ -7,7 +8,7 @@ use native.Mathlib.Omega.{arith}
 use lib.Dec.{eqb, ltb}
 use lib.ListN.{length, get_or, length-append, length-map}
 use borrow.Author.Tests.{eqb-true, eqb-false, ltb-false, ne_eqb, le-leb}
-use Rattle.words.specs.Choice.{if◌then◌else◌, ◌and◌}
+use Rattle.words.specs.Choice.{◌and◌}
 use Rattle.words.specs.Lists.{sum, all, any}
 use Rattle.words.proofs.Choice.{and_both}
 use Rattle.decimal.specs.Decimal.{read_number, digits}

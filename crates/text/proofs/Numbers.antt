@@ -1,4 +1,5 @@
 -- Which refusals a text can meet: 1, 2 and 3 for the whole of it, and 4 to 11 from its lines; and how far line and field can go.
+use Rattle.std.specs.Prelude.{if◌then◌else◌}
 use mathlib.Core.Path.{◌≡◌, refl, sym, ◌∙◌}
 use mathlib.Core.Bool.{Bool, true, false}
 use mathlib.Core.List.{List, [], ◌∷◌, ◌++◌}
@@ -7,7 +8,6 @@ use native.Mathlib.Omega.{arith}
 use lib.Dec.{eqb, ltb}
 use lib.ListN.{length, get_or, length-append}
 use borrow.Author.Tests.{eqb-true, eqb-false, ltb-true, ltb-false, leb-true}
-use Rattle.words.specs.Choice.{if◌then◌else◌}
 use Rattle.words.specs.Lists.{sum, any}
 use Rattle.words.proofs.Choice.{and_parts}
 use Rattle.decimal.specs.declared.Number.{Number}

@@ -1,4 +1,5 @@
 -- Where a text can be refused (`text-place`): on one of its lines or the first too many, and at one of a line's fields.
+use Rattle.std.specs.Prelude.{if◌then◌else◌}
 use mathlib.Core.Path.{◌≡◌, refl}
 use mathlib.Core.Bool.{Bool, true, false}
 use mathlib.Core.List.{List, [], ◌∷◌, ◌++◌}
@@ -7,7 +8,6 @@ use native.Mathlib.Omega.{arith}
 use lib.Dec.{eqb, ltb}
 use lib.ListN.{length, get_or, length-append}
 use borrow.Author.Tests.{eqb-false}
-use Rattle.words.specs.Choice.{if◌then◌else◌}
 use Rattle.words.specs.Lists.{sum, any}
 use Rattle.decimal.specs.Decimal.{read_number}
 use Rattle.decimal.specs.declared.Number.{Number}

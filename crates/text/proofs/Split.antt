@@ -1,4 +1,5 @@
 -- Laws of lines and fields: how a reader finds each, how many there are, and that put together again they are the text.
+use Rattle.std.specs.Prelude.{if◌then◌else◌}
 use mathlib.Core.Path.{◌≡◌, refl, sym, ap, ◌∙◌}
 use mathlib.Core.Bool.{Bool, true, false, not, false≢true}
 use mathlib.Core.List.{List, [], ◌∷◌, ◌++◌, map}
@@ -10,7 +11,6 @@ use lib.Dec.{eqb, leb, leb-suc-suc}
 use lib.ListN.{length, get_or, take, drop, drop_of_length-le, length-drop}
 use lib.Seq.{drop-cons, drop-drop}
 use borrow.Author.Tests.{not-true, eqb-true, eqb-false, eq-eqb, ne_eqb, le-leb, lt-leb}
-use Rattle.words.specs.Choice.{if◌then◌else◌}
 use Rattle.words.specs.Lists.{all, up_to}
 use Rattle.words.proofs.Choice.{and_parts, and_both}
 use Rattle.words.proofs.Lists.{lacks, length-up_to, take-up_to}

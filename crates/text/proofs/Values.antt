@@ -1,4 +1,5 @@
 -- Rows and tables as values while a text is read: each stays the value of the row, or table, that it stands for.
+use Rattle.std.specs.Prelude.{if◌then◌else◌}
 use mathlib.Core.Path.{◌≡◌, refl, sym, ap, ◌∙◌}
 use mathlib.Core.Bool.{Bool, true, false, not}
 use mathlib.Core.List.{List, [], ◌∷◌, ◌++◌, map, map-append}
@@ -11,7 +12,6 @@ use lib.Dec.{eqb}
 use lib.ListN.{length, take, drop, set, replicate, length-append, length-map, length-replicate}
 use lib.Seq.{append_snoc, take_at, set_at, take-suc-set}
 use borrow.Author.Tests.{eq-eqb, ne_eqb}
-use Rattle.words.specs.Choice.{if◌then◌else◌}
 use Rattle.words.specs.Lists.{sum, all, up_to, padded}
 use Rattle.words.specs.Buffer.{over}
 use Rattle.words.proofs.Choice.{and_both}

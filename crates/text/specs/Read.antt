@@ -1,6 +1,5 @@
 -- What reading a text gives: document 01, 'Refusal numbers', in the order in which it tests.
-use Rattle.std.specs.Prelude.{Bool, List, [], ◌∷◌, ◌++◌, ℕ, ◌+◌, ◌-◌, eqb, ltb, length, get_or}
-use Rattle.words.specs.Choice.{if◌then◌else◌}
+use Rattle.std.specs.Prelude.{Bool, List, [], ◌∷◌, ◌++◌, ℕ, ◌+◌, ◌-◌, eqb, ltb, length, get_or, if◌then◌else◌}
 use Rattle.words.specs.Lists.{sum, any}
 use Rattle.decimal.specs.Decimal.{read_number}
 use Rattle.decimal.specs.declared.Number.{Number}

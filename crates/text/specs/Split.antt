@@ -1,6 +1,5 @@
 -- Lines, each ended by one line feed, and fields, parted by one tab.
-use Rattle.std.specs.Prelude.{List, [], ◌∷◌, ℕ, eqb}
-use Rattle.words.specs.Choice.{if◌then◌else◌}
+use Rattle.std.specs.Prelude.{List, [], ◌∷◌, ℕ, eqb, if◌then◌else◌}
 use Rattle.fields.specs.Fields.{line_feed, tab}
 
 -- the byte x in front of the first of several parts

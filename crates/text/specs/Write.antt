@@ -1,6 +1,5 @@
 -- The text of a table, and what writing it into a lent buffer gives.
-use Rattle.std.specs.Prelude.{List, ◌∷◌, map, ℕ, leb, length}
-use Rattle.words.specs.Choice.{if◌then◌else◌}
+use Rattle.std.specs.Prelude.{List, ◌∷◌, map, ℕ, leb, length, if◌then◌else◌}
 use Rattle.words.specs.Buffer.{placed}
 use Rattle.decimal.specs.Decimal.{digits}
 use Rattle.table.specs.Paper.{Row, Table}

@@ -1,8 +1,9 @@
 -- The verdict of a table, row by row.
+use Rattle.std.specs.Prelude.{if◌then◌else◌}
 use mathlib.Core.Path.{◌≡◌, refl, sym, ap, ◌∙◌}
 use mathlib.Core.Bool.{Bool, true, false, false≢true}
 use mathlib.Core.List.{List, [], ◌∷◌, ◌++◌}
-use Rattle.words.specs.Choice.{if◌then◌else◌, ◌and◌, ◌or◌}
+use Rattle.words.specs.Choice.{◌and◌, ◌or◌}
 use Rattle.words.specs.Lists.{all, any}
 use Rattle.words.proofs.Choice.{and_parts}
 use Rattle.words.proofs.Lists.{all_snoc, any_snoc}

@@ -1,7 +1,6 @@
 -- What is said of a row and of a table: document 01, 'The figures'.
-use Rattle.std.specs.Prelude.{Bool, true, false, List, ℕ, leb}
+use Rattle.std.specs.Prelude.{Bool, true, false, List, ℕ, leb, if◌then◌else◌}
 use Rattle.std.proofs.Math.Option.{Option, none, some}
-use Rattle.words.specs.Choice.{if◌then◌else◌}
 use Rattle.words.specs.Lists.{all, any}
 use Rattle.ticks.specs.Ticks.{long}
 use Rattle.verdicts.specs.declared.Figure.{Figure}

@@ -1,10 +1,11 @@
 -- Laws of tests.
+use Rattle.std.specs.Prelude.{if◌then◌else◌}
 use mathlib.Core.Path.{◌≡◌, refl, sym}
 use mathlib.Core.Bool.{Bool, true, false, not, false≢true}
 use Prim.Native.Nat.{ℕ}
 use lib.Dec.{ltb, leb}
 use borrow.Author.Tests.{ltb-true, ltb-false, lt-leb, le-leb}
-use Rattle.words.specs.Choice.{if◌then◌else◌, ◌and◌, ◌or◌}
+use Rattle.words.specs.Choice.{◌and◌, ◌or◌}
 
 -- the two parts of an `and` that holds
 pub and_parts : {a b : Bool} → (a and b) ≡ true → (a ≡ true) × (b ≡ true)

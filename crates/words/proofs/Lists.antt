@@ -1,4 +1,5 @@
 -- Laws of lists, in the form in which a loop goes by them: the element at i, and what is left behind it.
+use Rattle.std.specs.Prelude.{if◌then◌else◌}
 use mathlib.Core.Path.{◌≡◌, refl, sym, ap, ◌∙◌}
 use mathlib.Core.Bool.{Bool, true, false, not, false≢true}
 use mathlib.Core.List.{List, [], ◌∷◌, ◌++◌}
@@ -9,7 +10,7 @@ use lib.Dec.{eqb}
 use lib.ListN.{length, take, drop, get_or, replicate, drop_of_length-le, length-append, length-replicate, length-drop, take-append-drop}
 use lib.Seq.{drop-cons, drop-append_seam}
 use borrow.Author.Tests.{eqb-true, eq-eqb, ne_eqb, not-true}
-use Rattle.words.specs.Choice.{if◌then◌else◌, ◌and◌, ◌or◌}
+use Rattle.words.specs.Choice.{◌and◌, ◌or◌}
 use Rattle.words.specs.Lists.{is_zero, sum, all, any, same, up_to, padded}
 use Rattle.words.proofs.Choice.{and_parts, and_both, or-false, or_nothing}
 

@@ -1,6 +1,5 @@
 -- Bytes put at the front of a lent buffer, the bytes behind them unchanged.
-use Rattle.std.specs.Prelude.{List, ◌++◌, ℕ, leb, length, drop}
-use Rattle.words.specs.Choice.{if◌then◌else◌}
+use Rattle.std.specs.Prelude.{List, ◌++◌, ℕ, leb, length, drop, if◌then◌else◌}
 
 -- the buffer d with bs at its front
 unfoldable pub over : List ℕ → List ℕ → List ℕ

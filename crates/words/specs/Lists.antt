@@ -1,6 +1,6 @@
 -- Lists of numbers and of rows.
-use Rattle.std.specs.Prelude.{Bool, true, false, List, [], ◌∷◌, ◌++◌, ℕ, zero, suc, ◌+◌, ◌-◌, eqb, length, replicate}
-use Rattle.words.specs.Choice.{if◌then◌else◌, ◌and◌, ◌or◌}
+use Rattle.std.specs.Prelude.{Bool, true, false, List, [], ◌∷◌, ◌++◌, ℕ, zero, suc, ◌+◌, ◌-◌, eqb, length, replicate, if◌then◌else◌}
+use Rattle.words.specs.Choice.{◌and◌, ◌or◌}
 
 -- a number is zero
 abbrev pub is_zero : ℕ → Bool
