@@ -67,7 +67,7 @@ pub fitted_short : (bs d : List ℕ) → length d < length bs → fitted bs d �
 unfolding fitted
 fitted_short bs d h = rw (lt-leb (length bs) (length d) h)
 
--- the kit's `bytes::copy` puts its source at the front
+-- `buffers::copy` puts its source at the front
 pub copied : (s d : List ℕ) (n : ℕ) → n ≡ length s → take n s ++ drop n d ≡ over s d
 unfolding over
 copied s d n e = rw (e, take-length s)

@@ -72,7 +72,7 @@ returns-then-d-next c =
     let f = right (rows_from a.above.periods a.above.works) a.k a.c in
     let s : f l.t ≡ a.c + c.demand_at-sum.result
     = ap (λ n. a.c + n) (sym c.demand_at-sum.ensures.0.sums) in
-    let g = going-above f a.d a.c l.t l.rounds l.invariant.2 (λ e. c.if-next-t.false (sym s ∙ e)) (rw s c.if-d-next.true) in
+    let g = going-above f a.d a.c l.t l.rounds l.invariant.2 (λ e. c.if-next-t.false (sym s ∙ e)) (omega (arith, s, c.if-d-next.true)) in
     λ i. record { figure = figure_of (sym g.0 i); rounds = sym g.1 i }
 
 pub loop-t-smaller : goal.loop-t-smaller
