@@ -1,7 +1,8 @@
 /*
  * Prints how many bytes of stack each of the two functions takes, the most over all items of a stream of table texts, or with the
  * word `runs` of a run stream. The functions are called on a thread whose stack was filled with a pattern; the lowest byte that
- * differs afterwards tells how far down they went. What a call that does nothing takes is taken off.
+ * differs afterwards tells how far down they went. What a call that does nothing takes is taken off. Ends with 1 where one takes
+ * more than the header says.
  */
 #define _POSIX_C_SOURCE 200809L
 #include "musselpath.h"
@@ -12,6 +13,11 @@
 #include <string.h>
 
 #define STACK (1 << 20)
+
+/* What include/musselpath.h tells a caller to see to. */
+#define REPORT_PROMISED 21000
+#define RUN_PROMISED 15000
+
 #define ITEM 65535
 #define PATTERN 0xa5
 
@@ -96,5 +102,8 @@ int main(int argc, char **argv)
         most = took > most ? took : most;
     }
     printf("%s: %zu bytes of stack\n", runs ? "musselpath_full_run" : "musselpath_report", most);
+    if (most > (runs ? RUN_PROMISED : REPORT_PROMISED)) {
+        fail("more than include/musselpath.h says");
+    }
     return 0;
 }

@@ -12,8 +12,8 @@
  * - The text is only read. Of `out` the answer alone is written: what lies beyond it is unchanged, and where nothing is answered
  *   all of it is unchanged. No other memory is touched.
  * - Every call returns. It takes no heap, calls nothing of an operating system, keeps nothing from one call to the next, and may
- *   be made from several threads at once. Of a C library it needs memcpy alone. All that it works with lies on the stack: the
- *   caller has to see to 21 KB for a report and 15 KB for a full run (boundary/stack.c measures it).
+ *   be made from several threads at once. Of a C library it needs memcpy and memset alone. All that it works with lies on the
+ *   stack: the caller has to see to 21 KB for a report and 15 KB for a full run (boundary/stack.c measures it).
  * - The same input always gives the same answer.
  *
  * How long a call takes depends on the table. A report takes one round or more for each row, and within the limits of a table

@@ -142,7 +142,7 @@ impl Machine {
     // Before the first tick, of n rows.
     fn start(n: usize, plan: &[[u64; LANE]; Table::ROWS]) -> Self
         requires { length plan.now ≡ most_rows }
-        ensures { result ≡ start_of n plan.entry.now }
+        ensures { result ≡ start_of n plan.now }
     {
         let none = Cell {
             release: Instant(0),
@@ -172,7 +172,7 @@ impl Machine {
     // since that would be handed a copy of the cells.
     fn tick(self, n: usize, plan: &[[u64; LANE]; Table::ROWS]) -> Self
         requires { Safe self n plan.now }
-        ensures { result ≡ tick_of self n plan.entry.now }
+        ensures { result ≡ tick_of self n plan.now }
     {
         let from = self.now;
         let mut cells = self.cells;

@@ -67,7 +67,8 @@ fn put_instants(table: Table, ticks: u64, out: &mut [u64])
     }
 }
 
-// The run of a well-formed table: 23, then 22, else its instants.
+// The run of a well-formed table: 23, then 22, else its instants. It stays a call of its own, so that its stack and that of reading are not needed at once.
+#[inline(never)]
 fn run(table: Table, ticks: u64, out: &mut [u64]) -> u64
     requires { well_formed table ≡ true }
     ensures { (result ≡ answer_for (accepted (table_of table)) ticks out.old) × (out.new ≡ left_for (accepted (table_of table)) ticks out.old) }
