@@ -107,12 +107,29 @@ put-before bs at b h k =
     drop-cons (set bs (at - 1) b) (at - 1) 0 l
     ∙ rw (get_or-set_same bs (at - 1) b 0 (omega arith), drop-set-lt (suc (at - 1)) bs (at - 1) b (omega arith), e)
 
--- one digit moved from the number to the bytes behind it, and the last one
-pub digit-moved : (n rest at : ℕ) (bs : List ℕ) → 10 ≤ rest → 1 ≤ at → at ≤ length bs → digits n ≡ digits rest ++ drop at bs
-    → digits n ≡ digits (rest / 10) ++ drop (at - 1) (set bs (at - 1) (48 + rest % 10))
-digit-moved n rest at bs h k l e =
-    e ∙ rw (digits-big rest h, put-before bs at (48 + rest % 10) k l) (append_snoc (digits (rest / 10)) (48 + rest % 10) (drop at bs))
+-- the last k digits of n, zeros among them
+unfoldable pub ends : ℕ → ℕ → List ℕ
+ends zero n = []
+ends (suc k) n = ends k (n / 10) ++ ((48 + n % 10) ∷ [])
 
-pub digit-left : (n rest at : ℕ) (bs : List ℕ) → rest < 10 → 1 ≤ at → at ≤ length bs → digits n ≡ digits rest ++ drop at bs
-    → drop (at - 1) (set bs (at - 1) (48 + rest)) ≡ digits n
-digit-left n rest at bs h k l e = put-before bs at (48 + rest) k l ∙ sym (e ∙ rw (digits-small rest h))
+-- they are all its digits, where they are as many
+pub digits-ends : (n : ℕ) → ends (length (digits n)) n ≡ digits n
+unfolding ends
+digits-ends = by-last-digit (λ n. ends (length (digits n)) n ≡ digits n) small big
+  where
+    small : (n : ℕ) → n < 10 → ends (length (digits n)) n ≡ digits n
+    small n h = let e : n % 10 ≡ n = omega arith in rw (digits-small n h, e)
+
+    big : (n : ℕ) → 10 ≤ n → ends (length (digits (n / 10))) (n / 10) ≡ digits (n / 10) → ends (length (digits n)) n ≡ digits n
+    big n h ih =
+        let e : length (digits n) ≡ suc (length (digits (n / 10))) = omega (arith, length-big n h) in
+        rw (e, ih, digits-big n h)
+
+-- one digit moved from the number to the bytes behind it
+pub digit-moved : (rest i : ℕ) (bs : List ℕ) → 1 ≤ i → i ≤ length bs
+    → ends i rest ++ drop i bs ≡ ends (i - 1) (rest / 10) ++ drop (i - 1) (set bs (i - 1) (48 + rest % 10))
+unfolding ends
+digit-moved rest zero bs h k = absurd (omega arith)
+digit-moved rest (suc i) bs h k =
+    let e : suc i - 1 ≡ i = omega arith in
+    rw (put-before bs (suc i) (48 + rest % 10) h k, e) (append_snoc (ends i (rest / 10)) (48 + rest % 10) (drop (suc i) bs))

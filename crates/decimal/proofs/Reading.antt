@@ -2,6 +2,7 @@
 use Rattle.std.specs.Prelude.{if◌then◌else◌}
 use mathlib.Core.Path.{◌≡◌, refl, sym, ap, ◌∙◌}
 use mathlib.Core.List.{List, [], ◌∷◌, ◌++◌, append_assoc, append-nil}
+use mathlib.Core.Logic.{◌⊎◌, inl, inr}
 use mathlib.Core.Bool.{Bool, true, false, not, false≢true}
 use Prim.Native.Nat.{ℕ, ◌+◌, ◌-◌, ◌*◌, ◌/◌, ◌%◌, ◌≤◌, ◌<◌}
 use native.Mathlib.Omega.{arith}
@@ -15,7 +16,7 @@ use Rattle.words.specs.Choice.{◌and◌}
 use Rattle.words.specs.Lists.{all}
 use Rattle.words.proofs.Choice.{and_parts, and_both, and-false, and-last-false, if-true, if-false}
 use Rattle.decimal.specs.Decimal.{digits, digit, value, leads, read_number}
-use Rattle.decimal.specs.declared.Number.TheVariants.{Is, No}
+use Rattle.std.specs.Prelude.{Some, None}
 use Rattle.decimal.proofs.Digits.{by-last-digit, digits-small, digits-big, digits-snoc}
 
 -- digits
@@ -28,13 +29,10 @@ digit-range : (b : ℕ) → digit b ≡ true → (48 ≤ b) × (b ≤ 57)
 unfolding digit
 digit-range b e = (leb-true 48 b (and_parts e).0, leb-true b 57 (and_parts e).1)
 
-pub digit_low : (b : ℕ) → b < 48 → digit b ≡ false
+pub not_digit : (b : ℕ) → (b < 48) ⊎ (57 < b) → digit b ≡ false
 unfolding digit
-digit_low b h = and-false _ (lt-leb 48 b h)
-
-pub digit-high : (b : ℕ) → 57 < b → digit b ≡ false
-unfolding digit
-digit-high b h = and-last-false _ (lt-leb b 57 h)
+not_digit b (inl h) = and-false _ (lt-leb 48 b h)
+not_digit b (inr h) = and-last-false _ (lt-leb b 57 h)
 
 -- what the digits of n come to
 
@@ -105,29 +103,29 @@ leads-digits n = go n (dec_lt n 1)
 
 -- what read_number answers
 
-pub number_is : (lo hi : ℕ) (s : List ℕ) → leads s ≡ true → all digit s ≡ true → lo ≤ value 0 s → value 0 s ≤ hi → read_number lo hi s ≡ Is (value 0 s)
+pub number_is : (lo hi : ℕ) (s : List ℕ) → leads s ≡ true → all digit s ≡ true → lo ≤ value 0 s → value 0 s ≤ hi → read_number lo hi s ≡ Some (value 0 s)
 unfolding read_number
 number_is lo hi s a b c d = if-true _ _ (and_both a (and_both b (and_both (le-leb lo (value 0 s) c) (le-leb (value 0 s) hi d))))
 
-pub number-leads : (lo hi : ℕ) (s : List ℕ) → leads s ≡ false → read_number lo hi s ≡ No
+pub number-leads : (lo hi : ℕ) (s : List ℕ) → leads s ≡ false → read_number lo hi s ≡ None
 unfolding read_number
 number-leads lo hi s e = if-false _ _ (and-false _ e)
 
-pub number-digit : (lo hi : ℕ) (s : List ℕ) → all digit s ≡ false → read_number lo hi s ≡ No
+pub number-digit : (lo hi : ℕ) (s : List ℕ) → all digit s ≡ false → read_number lo hi s ≡ None
 unfolding read_number
 number-digit lo hi s e = if-false _ _ (and-last-false (leads s) (and-false _ e))
 
-pub number-low : (lo hi : ℕ) (s : List ℕ) → value 0 s < lo → read_number lo hi s ≡ No
+pub number-low : (lo hi : ℕ) (s : List ℕ) → value 0 s < lo → read_number lo hi s ≡ None
 unfolding read_number
 number-low lo hi s h = if-false _ _ (and-last-false (leads s) (and-last-false (all digit s) (and-false _ (lt-leb lo (value 0 s) h))))
 
-pub number-high : (lo hi : ℕ) (s : List ℕ) → hi < value 0 s → read_number lo hi s ≡ No
+pub number-high : (lo hi : ℕ) (s : List ℕ) → hi < value 0 s → read_number lo hi s ≡ None
 unfolding read_number
 number-high lo hi s h =
     if-false _ _ (and-last-false (leads s) (and-last-false (all digit s) (and-last-false (leb lo (value 0 s)) (lt-leb (value 0 s) hi h))))
 
 -- WHAT IS WRITTEN READS BACK, for every limit
-pub number_digits : (lo hi n : ℕ) → lo ≤ n → n ≤ hi → read_number lo hi (digits n) ≡ Is n
+pub number_digits : (lo hi n : ℕ) → lo ≤ n → n ≤ hi → read_number lo hi (digits n) ≡ Some n
 number_digits lo hi n l h =
     let v = value-digits n in
     number_is lo hi (digits n) (leads-digits n) (all_digits n) (rw v l) (rw v h) ∙ rw v
@@ -157,16 +155,16 @@ digits_of (b ∷ c ∷ bs) l e =
     let z : 0 * 10 + (b - 48) ≡ b - 48 = omega arith in
     rw z (digits_value (b - 48) (c ∷ bs) (omega (arith, r.0)) (and_parts e).1 ∙ rw (digits-small (b - 48) (omega (arith, r.1)), k))
 
-no-is : (n : ℕ) → No ≡ Is n → ⊥
+no-is : (n : ℕ) → None ≡ Some n → ⊥
 no-is n e = let z : ◌≡◌ {A = ℕ} 0 1 = cc in omega arith
 
 -- WHAT IS ACCEPTED WRITES BACK TO THE SAME BYTES, for every limit
-pub digits_number : (lo hi : ℕ) (bs : List ℕ) (n : ℕ) → read_number lo hi bs ≡ Is n → (digits n ≡ bs) × (lo ≤ n) × (n ≤ hi)
+pub digits_number : (lo hi : ℕ) (bs : List ℕ) (n : ℕ) → read_number lo hi bs ≡ Some n → (digits n ≡ bs) × (lo ≤ n) × (n ≤ hi)
 unfolding read_number
 digits_number lo hi bs n e = go (leads bs and all digit bs and leb lo (value 0 bs) and leb (value 0 bs) hi) refl e
   where
     go : (t : Bool) → (leads bs and all digit bs and leb lo (value 0 bs) and leb (value 0 bs) hi) ≡ t
-        → (if t then Is (value 0 bs) else No) ≡ Is n → (digits n ≡ bs) × (lo ≤ n) × (n ≤ hi)
+        → (if t then Some (value 0 bs) else None) ≡ Some n → (digits n ≡ bs) × (lo ≤ n) × (n ≤ hi)
     go true a x =
         let p = and_parts a in
         let q = and_parts p.1 in
@@ -212,3 +210,9 @@ pub value-le : (v : ℕ) (s : List ℕ) → v ≤ value v s
 unfolding value
 value-le v [] = omega arith
 value-le v (x ∷ s) = omega (arith, value-le (v * 10 + (x - 48)) s)
+
+-- a number that has grown beyond hi stays there, whatever follows
+pub number-past : (lo hi v i : ℕ) (s : List ℕ) → value 0 s ≡ value v (drop i s) → i < length s → hi < v * 10 + (get_or s i 0 - 48)
+    → read_number lo hi s ≡ None
+number-past lo hi v i s e h p =
+    number-high lo hi s (omega (arith, e, value-at v s i h, value-le (v * 10 + (get_or s i 0 - 48)) (drop (i + 1) s), p))

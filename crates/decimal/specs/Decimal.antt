@@ -1,9 +1,7 @@
 -- Decimal numbers as bytes: how a number is written, and what bytes read as.
-use Rattle.std.specs.Prelude.{Bool, true, false, not, List, [], ◌∷◌, ◌++◌, ℕ, zero, suc, ◌+◌, ◌-◌, ◌*◌, ◌/◌, ◌%◌, ltb, leb, eqb, if◌then◌else◌}
+use Rattle.std.specs.Prelude.{Option, Some, None, Bool, true, false, not, List, [], ◌∷◌, ◌++◌, ℕ, zero, suc, ◌+◌, ◌-◌, ◌*◌, ◌/◌, ◌%◌, ltb, leb, eqb, if◌then◌else◌}
 use Rattle.words.specs.Choice.{◌and◌}
 use Rattle.words.specs.Lists.{all}
-use Rattle.decimal.specs.declared.Number.{Number}
-use Rattle.decimal.specs.declared.Number.TheVariants.{Is, No}
 
 -- the last digits of n, at most as many as the first argument says
 unfoldable pub last_digits : ℕ → ℕ → List ℕ
@@ -32,6 +30,6 @@ leads (b ∷ []) = true
 leads (b ∷ c ∷ bs) = not (eqb b 48)
 
 -- what bytes read as: a number from lo to hi, decimal, with no leading zero and no sign; or no number
-unfoldable pub read_number : ℕ → ℕ → List ℕ → Number
+unfoldable pub read_number : ℕ → ℕ → List ℕ → Option ℕ
 read_number lo hi bs =
-    if leads bs and all digit bs and leb lo (value 0 bs) and leb (value 0 bs) hi then Is (value 0 bs) else No
+    if leads bs and all digit bs and leb lo (value 0 bs) and leb (value 0 bs) hi then Some (value 0 bs) else None

@@ -1,4 +1,5 @@
 // Runs thousands of drawn texts, right and damaged, against the second program's stored answers.
+// A program of its own, since it has a stored input and output of its own; what the four of them share stands in `vectors`.
 #![tactic(auto)]
 
 use replies::Kind;

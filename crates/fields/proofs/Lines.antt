@@ -85,10 +85,16 @@ put-fields f d y r h e =
     let l : length (tab ∷ f) ≤ length d = omega (arith, fields-length f []) in
     rw (append-nil f) (put-over (tab ∷ f) d y r (e.0 ∙ fitted-fits (tab ∷ f) d l) (e.1 ∙ placed-fits (tab ∷ f) d l) l)
 
-joined_snoc : (ls : List (List ℕ)) (l : List ℕ) → joined (ls ++ (l ∷ [])) ≡ joined ls ++ l
+-- lines, and more behind them
+pub joined-append : (ls ms : List (List ℕ)) → joined (ls ++ ms) ≡ joined ls ++ joined ms
 unfolding joined
-joined_snoc [] l = append-nil l
-joined_snoc (m ∷ ls) l = ap (λ (k : List ℕ). m ++ k) (joined_snoc ls l) ∙ sym (append_assoc m (joined ls) l)
+joined-append [] ms = refl
+joined-append (l ∷ ls) ms = ap (λ (k : List ℕ). l ++ k) (joined-append ls ms) ∙ sym (append_assoc l (joined ls) (joined ms))
+
+-- one line more
+pub joined_snoc : (ls : List (List ℕ)) (l : List ℕ) → joined (ls ++ (l ∷ [])) ≡ joined ls ++ l
+unfolding joined
+joined_snoc ls l = joined-append ls (l ∷ []) ∙ ap (λ (k : List ℕ). joined ls ++ k) (append-nil l)
 
 -- the first n of the lines at 0, 1, 2, ..
 

@@ -15,6 +15,7 @@ use Rattle.verdicts.specs.declared.TableVerdict.{TableVerdict}
 use Rattle.recurrence.specs.Figures.{verdict}
 use Rattle.figures.specs.Answers.{verdicts, table_verdict}
 use Rattle.verdicts.specs.Verdicts.{overall, joined_of}
+use Rattle.std.specs.Prelude.{Ok}
 use Rattle.verdicts.proofs.Overall.{overall-next}
 use Rattle.figures.specs.Work.{rows_of, Kept}
 
@@ -31,9 +32,9 @@ module _ (v : TableValue) (ok : well_formed v ≡ true) where
 abbrev pub verdict_of : (ℕ → Row) → ℕ → TableVerdict
 verdict_of rows n = overall (map (verdict rows) (below n))
 
-pub verdict-next : (rows : ℕ → Row) (n : ℕ) → joined_of (verdict_of rows n) (verdict rows n) ≡ verdict_of rows (n + 1)
+pub verdict-next : (rows : ℕ → Row) (n : ℕ) → joined_of (Ok (verdict_of rows n)) (verdict rows n) ≡ Ok (verdict_of rows (n + 1))
 verdict-next rows n =
-    overall-next (map (verdict rows) (below n)) (verdict rows n) ∙ ap overall (sym (map_below (verdict rows) n)) ∙ ap (verdict_of rows) (sym (add-one n))
+    overall-next (map (verdict rows) (below n)) (verdict rows n) ∙ ap (λ vs. Ok (overall vs)) (sym (map_below (verdict rows) n)) ∙ ap (λ m. Ok (verdict_of rows m)) (sym (add-one n))
 
 pub verdict-whole : (t : Table) (n : ℕ) → n ≡ length t → verdict_of (row_at t) n ≡ table_verdict t
 unfolding table_verdict verdicts

@@ -1,68 +1,70 @@
--- What the functions within the crate go by: the rows above as two arrays of numbers, and how far their releases are counted.
-use Rattle.std.specs.Prelude.{◌≡◌, true, List, [], ◌∷◌, ℕ, ◌+◌, ◌-◌, ◌*◌, ◌≤◌, ◌<◌, length, get_or}
+-- What the functions within the crate go by: the rows above as loads, and how far their releases are counted.
+use Rattle.std.specs.Prelude.{◌≡◌, true, List, [], ◌∷◌, ℕ, ◌+◌, ◌*◌, ◌≤◌, ◌<◌, length, get_or}
+use Rattle.std.proofs.Common.{lit≤}
+use Rattle.std.proofs.Math.Option.{Option, some}
 use Rattle.table.specs.Limits.{most_rows}
-use Rattle.table.specs.Paper.{Row, parts, work, right_row}
+use Rattle.table.specs.Paper.{Row, Part, part, parts, work, right_row}
 use Rattle.table.specs.Value.{no_value, row_of, row_value}
 use Rattle.table.specs.declared.Row.{Row as RowValue}
-use Rattle.figures.specs.declared.Ahead.{Ahead}
+use Rattle.figures.specs.declared.load.Load.{Load}
 use Rattle.figures.specs.declared.Worked.{Worked}
-use Rattle.recurrence.specs.Figures.{ceiling, arrivals, demand, result, rounds, split_from, split_rounds}
+use Rattle.recurrence.specs.Figures.{arrivals, demand, right, result, rounds, plus, unless_none}
 use Rattle.verdicts.specs.Verdicts.{figure_of}
-
--- numbers up to this one keep every sum and product of the figures within 64 bits; a table's limit is at most this
-abbrev pub safe_number : ℕ
-safe_number = 60000000
 
 -- what a recurrence comes to
 abbrev pub worked_of : (ℕ → ℕ) → ℕ → ℕ → Worked
 worked_of f d c = record { figure = figure_of (result f d c); rounds = rounds f d c }
 
--- what the stretches of row k by themselves come to
-abbrev pub split_worked : (ℕ → Row) → ℕ → Worked
-split_worked rows k = record { figure = figure_of (split_from rows k (parts (rows k).times)); rounds = split_rounds rows k (parts (rows k).times) }
+-- split and its rounds, by the result and the rounds of a stretch of c
+abbrev pub split_by : (ℕ → Option ℕ) → List Part → Option ℕ
+split_by res [] = some 0
+split_by res (part s c ∷ l) = plus s (res c) (split_by res l)
 
--- the rows above, as their T and their added C give them
-abbrev pub rows_from : List ℕ → List ℕ → ℕ → Row
-rows_from periods works i = record { name = []; period = get_or periods i 0; deadline = 0; times = get_or works i 0 ∷ [] }
+abbrev pub rounds_by : (ℕ → Option ℕ) → (ℕ → ℕ) → List Part → ℕ
+rounds_by res num [] = 0
+rounds_by res num (part s c ∷ l) = num c + unless_none (res c) (rounds_by res num l)
 
--- the releases of a row with that period that come in between the instant `held`, up to which its count holds, and t
-unfoldable pub more_of : ℕ → ℕ → ℕ → ℕ
-more_of held period t = ceiling (t - held) period
+-- what a list of loads gives where it has none: a row that asks for nothing, with what the type says of it
+abbrev pub no_load : Load
+no_load = record { period = 1; work = 0; until = 0; some = lit≤ tt; period_safe = lit≤ tt; work_safe = lit≤ tt; near = lit≤ tt }
 
--- the row counted on: up to which instant its count holds then, and what those releases ask for
-abbrev pub ahead_of : ℕ → ℕ → ℕ → ℕ → Ahead
-ahead_of held period work t = record { 0 = held + more_of held period t * period; 1 = more_of held period t * work }
+-- the rows above, as the loads have them
+abbrev pub rows_from : List Load → ℕ → Row
+rows_from above i = record { name = []; period = (get_or above i no_load).period; deadline = 0; times = (get_or above i no_load).work ∷ [] }
 
--- k rows above, whose numbers are safe
-pub record Modest (k : ℕ) (periods works : List ℕ) : Type 0 where
-  pub few : k ≤ most_rows
-  pub periods-size : length periods ≡ most_rows
-  pub works-size : length works ≡ most_rows
-  pub period-some : (i : ℕ) → i < k → 1 ≤ get_or periods i 0
-  pub period-safe : (i : ℕ) → i < k → get_or periods i 0 ≤ safe_number
-  pub work-safe : (i : ℕ) → i < k → get_or works i 0 ≤ safe_number
+-- the right side of the recurrence, below these rows
+abbrev pub right_below : List Load → ℕ → ℕ → ℕ
+right_below above c = right (rows_from above) (length above) c
 
--- the releases counted at some instant `at` no later than t: sum is what they ask for, and each row's count holds until its place in `until`
-pub record Counted (rows : ℕ → Row) (k t sum : ℕ) (until : List ℕ) : Type 0 where
+-- what the stretches of a row by themselves come to, below these rows
+abbrev pub split_worked : List Load → Row → Worked
+split_worked above r =
+    record {
+      figure = figure_of (split_by (λ c. result (right_below above c) r.deadline c) (parts r.times));
+      rounds = rounds_by (λ c. result (right_below above c) r.deadline c) (λ c. rounds (right_below above c) r.deadline c) (parts r.times);
+    }
+
+-- the releases counted at some instant `at` no later than t: sum is what they ask for, and each row's count holds until its own instant
+pub record Counted (above : List Load) (t sum : ℕ) : Type 0 where
   pub at : ℕ
   pub before : at ≤ t
-  pub sums : sum ≡ demand rows k at
-  pub holds : (i : ℕ) → i < k → get_or until i 0 ≡ arrivals (rows i) at * (rows i).period
+  pub sums : sum ≡ demand (rows_from above) (length above) at
+  pub holds : (i : ℕ) → i < length above → (get_or above i no_load).until ≡ arrivals (rows_from above i) at * (rows_from above i).period
 
 -- the same, counted at t
-pub record CountedAt (rows : ℕ → Row) (k t sum : ℕ) (until : List ℕ) : Type 0 where
-  pub sums : sum ≡ demand rows k t
-  pub holds : (i : ℕ) → i < k → get_or until i 0 ≡ arrivals (rows i) t * (rows i).period
+pub record CountedAt (above : List Load) (t sum : ℕ) : Type 0 where
+  pub sums : sum ≡ demand (rows_from above) (length above) t
+  pub holds : (i : ℕ) → i < length above → (get_or above i no_load).until ≡ arrivals (rows_from above i) t * (rows_from above i).period
 
 -- the rows that row values stand for, from 0
 abbrev pub rows_of : List RowValue → ℕ → Row
 rows_of rows i = row_of (get_or rows i no_value)
 
--- the rows above, taken out of row values
-pub record Taken (rows : List RowValue) (k : ℕ) (periods works : List ℕ) : Type 0 where
-  pub modest : Modest k periods works
-  pub period : (i : ℕ) → i < k → get_or periods i 0 ≡ (rows_of rows i).period
-  pub work-is : (i : ℕ) → i < k → get_or works i 0 ≡ work (parts (rows_of rows i).times)
+-- loads for as many rows as a table may have, those of these rows first
+pub record Loaded (rows : List RowValue) (above : List Load) : Type 0 where
+  pub size : length above ≡ most_rows
+  pub period : (i : ℕ) → i < length rows → (get_or above i no_load).period ≡ (rows_of rows i).period
+  pub work-is : (i : ℕ) → i < length rows → (get_or above i no_load).work ≡ work (parts (rows_of rows i).times)
 
 -- a row value that keeps its rules: it is the value of a right row
 pub record Kept (v : RowValue) : Type 0 where

@@ -1,43 +1,29 @@
 // Standard input as a whole, in as many reads as it takes.
 #![tactic(auto)]
 
-ghost use Rattle.std.specs.Prelude.{◌≡◌, ◌<◌, ℕ, length, take};
-ghost use Rattle.std.specs.Io.KnownBytes.{Consumes, IsAtEnd, Keeps};
+ghost use Rattle.std.specs.Prelude.{◌<◌, length, take, IfOk};
+ghost use Rattle.std.specs.Io.KnownBytes.{Consumes, IsAtEnd};
 ghost use Rattle.input.specs.Input.{IsPrefixLen};
 
-use std::io::{Read, Write};
+use std::io;
+use std::io::Read;
 
-// What standard input gave.
-#[derive(Clone, Copy)]
-pub enum Input {
-    // So many bytes, at the front of the buffer.
-    Bytes(usize),
-    // A read failed, and standard error says so.
-    Failed,
-}
+// What a program says where standard input cannot be read.
+pub const UNREAD: &[u8] = b"standard input cannot be read\n";
 
-// Reads until the buffer is full or the input ends.
-pub fn read_whole<R: Read, E: Write>(stdin: &mut R, stderr: &mut E, buf: &mut [u8]) -> Input
-    ensures within { (n : ℕ) → result ≡ Input.Bytes n → IsPrefixLen n buf.new }
-    ensures bytes { (n : ℕ) → result ≡ Input.Bytes n
-        → Consumes (R.remaining stdin.old) (R.remaining stdin.new) (take n buf.new) }
-    ensures end { (n : ℕ) → result ≡ Input.Bytes n → n < length buf.new → IsAtEnd (R.remaining stdin.new) }
-    ensures quiet { (n : ℕ) → result ≡ Input.Bytes n → Keeps (E.contents stderr.old) (E.contents stderr.new) }
+// Reads until the buffer is full or the input ends, and answers how many bytes stand at the front of the buffer.
+pub fn read_whole<R: Read>(stdin: &mut R, buf: &mut [u8]) -> io::Result<usize>
+    ensures within { IfOk result (λ n. IsPrefixLen n buf.new) }
+    ensures bytes { IfOk result (λ n. Consumes (R.remaining stdin.old) (R.remaining stdin.new) (take n buf.new)) }
+    ensures end { IfOk result (λ n. n < length buf.new → IsAtEnd (R.remaining stdin.new)) }
 {
-    let mut at: usize = 0;
+    let mut at = 0;
+    // `read_exact` tells no length where the input is shorter than the buffer, and `read_to_end` wants a heap.
     while at < buf.len() {
-        match stdin.read(&mut buf[at..]) {
-            Ok(more) => {
-                if more == 0 {
-                    break;
-                }
-                at += more;
-            }
-            Err(_) => {
-                output::say(stderr, b"standard input cannot be read\n");
-                return Input::Failed;
-            }
+        match stdin.read(&mut buf[at..])? {
+            0 => break,
+            more => at += more,
         }
     }
-    Input::Bytes(at)
+    Ok(at)
 }

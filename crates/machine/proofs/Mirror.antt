@@ -4,9 +4,9 @@ use mathlib.Core.Path.{◌≡◌, refl, sym, ◌∙◌, ap}
 use mathlib.Core.Bool.{Bool, true, false}
 use mathlib.Core.List.{List, [], ◌∷◌, ◌++◌}
 use mathlib.Core.Option.{none, some}
-use Prim.Native.Nat.{ℕ, zero, suc, ◌+◌, ◌-◌, ◌*◌, ◌/◌, ◌%◌, ◌≤◌, ◌<◌}
+use Prim.Native.Nat.{ℕ, zero, suc, ◌+◌, ◌-◌, ◌*◌, ◌%◌, ◌≤◌, ◌<◌}
 use native.Mathlib.Omega.{arith}
-use native.Mathlib.Nat.{mul-mod_left, mul-le-mul_right, mod-add-div', div-eq_of_lt-le}
+use native.Mathlib.Nat.{mul-mod_left, mod-add-div', div-eq_of_lt-le}
 use native.Mathlib.Decide.{dec_le}
 use borrow.Author.Tests.{lt-ltb, le-ltb, le-leb, lt-leb, eq-eqb, ne_eqb, eqb-true, eqb-false}
 use lib.Dec.{eqb, leb}
@@ -15,24 +15,25 @@ use lib.Seq.{drop-cons}
 use Rattle.ticks.specs.declared.Instant.{Instant}
 use Rattle.table.specs.Limits.{most_times}
 use Rattle.table.specs.Paper.{Row, Part, part, behind, parts}
+use Rattle.table.specs.declared.Row.{Row as RowValue}
 use Rattle.ticks.specs.Ticks.{long, instant}
 use Rattle.machine.specs.declared.Cell.{Cell}
 use Rattle.kernel.specs.Rules.{Job, job, spend, keep, serve, ready, arrive, full_release}
-use Rattle.machine.specs.Tick.{cell_of, time_at, period_of, ended_of, served_of}
+use Rattle.machine.specs.Tick.{cell_of, time_at, ended_of, served_of}
 use Rattle.machine.specs.Queue.{left_of, full_jobs, jobs_of, queue_of}
 
 -- the time at a place of a row, 0 behind the last
 abbrev time : Row → ℕ → ℕ
 time r j = get_or r.times j 0
 
--- the lane is the plan of the row, which keeps its rules
-pub record Planned (r : Row) (lane : List ℕ) : Type 0 where
+-- the value is that of the row, which keeps its rules
+pub record Planned (r : Row) (v : RowValue) : Type 0 where
   pub period : 1 ≤ r.period
   pub some-time : 1 ≤ length r.times
   pub short : length r.times ≤ most_times
   pub no_zero : (j : ℕ) → j < length r.times → 1 ≤ time r j
-  pub times : (j : ℕ) → j ≤ most_times + 1 → time_at lane j ≡ time r j
-  pub turn : period_of lane ≡ r.period
+  pub times : (j : ℕ) → time_at v j ≡ time r j
+  pub turn : v.period.0 ≡ r.period
 
 -- the cell of a job of which nothing is done
 pub record Fresh (r : Row) (c : Cell) : Type 0 where
@@ -71,13 +72,7 @@ pub record Arrived (r : Row) (n : ℕ) (c : Cell) (q : List Job) : Type 0 where
 -- the next release is in this tick exactly where the tick's number is a multiple of the period
 module _ (T n next d : ℕ) (soon : n ≤ next) (due : next ≡ d * T) where
   due-now : next < n + T → n % T ≡ 0 → next ≡ n
-  due-now near e = go (dec_le d (n / T))
-    where
-      go : Dec (d ≤ n / T) → next ≡ n
-      go (yes le) = omega (arith, mod-add-div' n T, mul-le-mul_right T le)
-      go (no nle) =
-          let le : suc (n / T) ≤ d = omega arith in
-          absurd (omega (arith, mod-add-div' n T, mul-le-mul_right T le))
+  due-now near e = grind (arith, mod-add-div' n T)
 
   due-later : (n % T ≡ 0 → ⊥) → n < next
   due-later e = go (dec_le next n)
@@ -85,14 +80,12 @@ module _ (T n next d : ℕ) (soon : n ≤ next) (due : next ≡ d * T) where
       go : Dec (next ≤ n) → n < next
       go (yes le) =
           let a : n ≡ d * T = omega arith in
-          absurd (e (ap (λ k. k % T) a ∙ mul-mod_left d T))
+          absurd (e (cc (mul-mod_left d T)))
       go (no le) = omega arith
 
 -- one full job more, behind the others
 full-more : (r : Row) (from j n : ℕ) → n ≡ from + j * r.period → full_jobs r from j ++ (job n (parts r.times) ∷ []) ≡ full_jobs r from (suc j)
-full-more r from zero n e =
-    let z : n ≡ from = omega arith in
-    ap (λ k. job k (parts r.times) ∷ []) z
+full-more r from zero n e = grind arith
 full-more r from (suc j) n e = ap (λ q. job from (parts r.times) ∷ q) (full-more r (from + r.period) j n (omega arith))
 
 -- the parts of a row, by its first time and what is behind it
@@ -106,9 +99,7 @@ behind-last ts p h = go (dec_le (length ts) (p + 1))
   where
     go : Dec (length ts ≤ p + 1) → behind (drop (p + 1) ts) ≡ []
     go (yes le) = ap behind (drop_of_length-le ts le)
-    go (no nle) =
-        let a : drop (suc (p + 1)) ts ≡ [] = drop_of_length-le ts {i = suc (p + 1)} (omega arith) in
-        ap behind (drop-cons ts (p + 1) 0 (omega arith) ∙ ap (λ l. get_or ts (p + 1) 0 ∷ l) a)
+    go (no nle) = grind (arith, drop-cons ts (p + 1) 0, drop_of_length-le ts {i = suc (p + 1)})
 
 behind-next : (ts : List ℕ) (p : ℕ) → p + 2 < length ts → behind (drop (p + 1) ts) ≡ part (get_or ts (p + 1) 0) (get_or ts (p + 2) 0) ∷ behind (drop (p + 2 + 1) ts)
 behind-next ts p h =
@@ -124,7 +115,7 @@ behind-next ts p h =
 abbrev queued : Row → Cell → ℕ → ℕ → ℕ → List Job
 queued r c w l j = job c.release.0 (part w l ∷ behind (drop (c.place + 1) r.times)) ∷ full_jobs r (c.release.0 + r.period) j
 
-module _ (r : Row) (lane : List ℕ) (ok : Planned r lane) where
+module _ (r : Row) (v : RowValue) (ok : Planned r v) where
   fresh-left : (n : ℕ) (c : Cell) → Fresh r c → c.release.0 ≤ n → left_of r n c ≡ parts r.times
   fresh-left n c f e =
       let a : c.ready.0 - n ≡ 0 = omega (arith, f.ready) in
@@ -222,28 +213,26 @@ module _ (r : Row) (lane : List ℕ) (ok : Planned r lane) where
 
   -- the end of a stretch in the words of the row: the job's last one, and one with another behind it
   ended-last : (end : Instant) (c : Cell) → c.place < length r.times → length r.times ≤ c.place + 2
-      → ended_of end lane c ≡ record { release = instant (c.release.0 + r.period); ready = instant (c.release.0 + r.period); place = 0; left = long (time r 0) }
-  unfolding ended_of
+      → ended_of end v c ≡ record { release = instant (c.release.0 + r.period); ready = instant (c.release.0 + r.period); place = 0; left = long (time r 0) }
   ended-last end c h le =
-      let t : time_at lane (c.place + 2) ≡ 0 = ok.times (c.place + 2) (omega (arith, ok.short)) ∙ get_or-eq_default r.times 0 le in
-      rw (eq-eqb (time_at lane (c.place + 2)) 0 t)
+      let t : time_at v (c.place + 2) ≡ 0 = ok.times (c.place + 2) ∙ get_or-eq_default r.times 0 le in
+      rw (eq-eqb (time_at v (c.place + 2)) 0 t)
       (λ i. record {
         release = instant (c.release.0 + ok.turn i);
         ready = instant (c.release.0 + ok.turn i);
         place = 0;
-        left = long (ok.times 0 (omega arith) i);
+        left = long (ok.times 0 i);
       })
 
   ended-next : (end : Instant) (c : Cell) → c.place + 2 < length r.times
-      → ended_of end lane c ≡ record { release = c.release; ready = instant (end.0 + time r (c.place + 1)); place = c.place + 2; left = long (time r (c.place + 2)) }
-  unfolding ended_of
+      → ended_of end v c ≡ record { release = c.release; ready = instant (end.0 + time r (c.place + 1)); place = c.place + 2; left = long (time r (c.place + 2)) }
   ended-next end c h =
-      let e = ok.times (c.place + 2) (omega (arith, ok.short)) in
-      let t : time_at lane (c.place + 2) ≡ 0 → ⊥ = λ z. omega (arith, ok.no_zero (c.place + 2) h) in
-      rw (ne_eqb (time_at lane (c.place + 2)) 0 t)
+      let e = ok.times (c.place + 2) in
+      let t : time_at v (c.place + 2) ≡ 0 → ⊥ = λ z. omega (arith, ok.no_zero (c.place + 2) h) in
+      rw (ne_eqb (time_at v (c.place + 2)) 0 t)
       (λ i. record {
         release = c.release;
-        ready = instant (end.0 + ok.times (c.place + 1) (omega (arith, ok.short)) i);
+        ready = instant (end.0 + ok.times (c.place + 1) i);
         place = c.place + 2;
         left = long (e i);
       })
@@ -286,7 +275,7 @@ module _ (r : Row) (lane : List ℕ) (ok : Planned r lane) where
         })
 
     -- its stretch ends, and the job with it: the next job of the row is served from the next tick on where it is released, else awaited
-    job-ends : c.left.0 ≡ 1 → length r.times ≤ c.place + 2 → Mirror r (suc n) (ended_of (instant (n + 1)) lane c) (serve true q)
+    job-ends : c.left.0 ≡ 1 → length r.times ≤ c.place + 2 → Mirror r (suc n) (ended_of (instant (n + 1)) v c) (serve true q)
     job-ends f le =
         let s = a.stands in
         rw (ended-last (instant (n + 1)) c s.placed le)
@@ -316,7 +305,7 @@ module _ (r : Row) (lane : List ℕ) (ok : Planned r lane) where
         follows (suc j) h = ap (λ x. job (c.release.0 + r.period) x ∷ full_jobs r (c.release.0 + r.period + r.period) j) (sym (fresh-left (suc n) next fresh (omega arith)))
 
     -- its stretch ends, and a suspension starts
-    suspension-starts : c.left.0 ≡ 1 → c.place + 2 < length r.times → Mirror r (suc n) (ended_of (instant (n + 1)) lane c) (serve true q)
+    suspension-starts : c.left.0 ≡ 1 → c.place + 2 < length r.times → Mirror r (suc n) (ended_of (instant (n + 1)) v c) (serve true q)
     suspension-starts f lt =
         let s = a.stands in
         let w : time r (c.place + 1) ≡ n + 1 + time r (c.place + 1) - suc n = omega arith in
@@ -336,25 +325,24 @@ module _ (r : Row) (lane : List ℕ) (ok : Planned r lane) where
               ∙ ap (λ x. job c.release.0 (part x (time r (c.place + 2)) ∷ behind (drop (c.place + 2 + 1) r.times)) ∷ late) w;
         }))
 
-  pub goes_on : (n : ℕ) (c : Cell) (q : List Job) → Arrived r n c q → c.ready.0 ≤ n → Mirror r (suc n) (served_of (instant n) lane c) (serve true q)
-  unfolding served_of
+  pub goes_on : (n : ℕ) (c : Cell) (q : List Job) → Arrived r n c q → c.ready.0 ≤ n → Mirror r (suc n) (served_of (instant n) v c) (serve true q)
   goes_on n c q a h = go a.stands.jobs refl
     where
-      ends : (j : ℕ) → a.stands.jobs ≡ suc j → c.left.0 ≡ 1 → Dec (length r.times ≤ c.place + 2) → Mirror r (suc n) (ended_of (instant (n + 1)) lane c) (serve true q)
+      ends : (j : ℕ) → a.stands.jobs ≡ suc j → c.left.0 ≡ 1 → Dec (length r.times ≤ c.place + 2) → Mirror r (suc n) (ended_of (instant (n + 1)) v c) (serve true q)
       ends j e f (yes le) = job-ends n c q a h j e f le
       ends j e f (no lt) = suspension-starts n c q a h j e f (omega arith)
 
-      ticks : (j : ℕ) → a.stands.jobs ≡ suc j → (k : ℕ) → c.left.0 ≡ k → Mirror r (suc n) (served_of (instant n) lane c) (serve true q)
+      ticks : (j : ℕ) → a.stands.jobs ≡ suc j → (k : ℕ) → c.left.0 ≡ k → Mirror r (suc n) (served_of (instant n) v c) (serve true q)
       ticks j e zero f = absurd (omega (arith, a.stands.some_left))
       ticks j e (suc zero) f = rw (le-ltb 1 c.left.0 (omega arith)) (ends j e f (dec_le (length r.times) (c.place + 2)))
       ticks j e (suc (suc k)) f = rw (lt-ltb 1 c.left.0 (omega arith)) (stretch-goes-on n c q a h j e k f)
 
-      go : (j : ℕ) → a.stands.jobs ≡ j → Mirror r (suc n) (served_of (instant n) lane c) (serve true q)
+      go : (j : ℕ) → a.stands.jobs ≡ j → Mirror r (suc n) (served_of (instant n) v c) (serve true q)
       go zero e = absurd (omega (arith, a.stands.due, a.stands.waits, a.soon, ap (λ k. k * r.period) e))
       go (suc j) e = ticks j e c.left.0 refl
 
   -- the row before its first tick
-  pub begins : Mirror r 0 (cell_of lane) []
+  pub begins : Mirror r 0 (cell_of (instant 0) v) []
   begins =
       record {
         next = 0;
@@ -367,8 +355,8 @@ module _ (r : Row) (lane : List ℕ) (ok : Planned r lane) where
               jobs = 0;
               due = omega arith;
               waits = omega arith;
-              some_left = omega (arith, ok.times 0 (omega arith), ok.no_zero 0 ok.some-time);
-              fresh = λ z. record { ready = refl; place = refl; left = ok.times 0 (omega arith) };
+              some_left = omega (arith, ok.times 0, ok.no_zero 0 ok.some-time);
+              fresh = λ z. record { ready = refl; place = refl; left = ok.times 0 };
               placed = ok.some-time;
               is = refl;
             };

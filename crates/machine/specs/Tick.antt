@@ -1,98 +1,91 @@
 -- One tick of the machine, and the machine after k ticks. proofs/Link shows that it goes by the kernel's rules.
-use Rattle.std.specs.Prelude.{List, [], ◌∷◌, ◌++◌, map, ℕ, zero, suc, ◌+◌, ◌-◌, ltb, leb, take, get_or, set, if◌then◌else◌}
+use Rattle.std.specs.Prelude.{Option, Some, None, Bool, List, ◌++◌, map, ℕ, zero, suc, ◌+◌, ◌-◌, ltb, leb, length, take, get_or, set, replicate, if◌then◌else◌}
+use Rattle.std.specs.List.{position}
 use Rattle.words.specs.Lists.{is_zero}
-use Rattle.ticks.specs.Ticks.{instant, ticks, long}
+use Rattle.ticks.specs.Ticks.{instant, long}
 use Rattle.ticks.specs.declared.Instant.{Instant}
-use Rattle.table.specs.Limits.{most_times}
-use Rattle.table.specs.declared.Row.{Row as RowValue}
-use Rattle.table.specs.declared.Table.{Table as TableValue}
+use Rattle.table.specs.Limits.{most_rows}
+use Rattle.table.specs.Value.{no_value}
+use Rattle.table.specs.declared.Row.{Row}
+use Rattle.table.specs.declared.Table.{Table}
 use Rattle.machine.specs.declared.Cell.{Cell}
 use Rattle.machine.specs.declared.Machine.{Machine}
 
--- a row's lane of the plan: its times, two zeros that end them, its period
-abbrev pub lane_of : RowValue → List ℕ
-lane_of v = map ticks v.times ++ (0 ∷ 0 ∷ v.period.0 ∷ [])
+-- the time at a place of a row, C1 at 0; 0 behind the last
+abbrev pub time_at : Row → ℕ → ℕ
+time_at row place = (get_or row.times place (long 0)).0
 
--- the plan of a table, row by row
-unfoldable pub plan_of : TableValue → List (List ℕ)
-plan_of v = map lane_of v.rows
+-- a row's job of which nothing is done: ready at its release, or at once where it is late
+abbrev pub cell_of : Instant → Row → Cell
+cell_of release row = record { release = release; ready = release; place = 0; left = long (time_at row 0) }
 
--- the time at a place of a lane, C1 at 0; 0 behind the last
-abbrev pub time_at : List ℕ → ℕ → ℕ
-time_at lane place = get_or lane place 0
-
--- the period of a lane
-abbrev pub period_of : List ℕ → ℕ
-period_of lane = get_or lane (most_times + 2) 0
-
--- a row's first job, due at 0
-abbrev pub cell_of : List ℕ → Cell
-cell_of lane = record { release = instant 0; ready = instant 0; place = 0; left = long (time_at lane 0) }
-
--- the job is complete: the next one is due a period after its release, and ready at once where it is late
-abbrev pub next_job : List ℕ → Cell → Cell
-next_job lane c =
-    record {
-      release = instant (c.release.0 + period_of lane);
-      ready = instant (c.release.0 + period_of lane);
-      place = 0;
-      left = long (time_at lane 0);
-    }
+-- the job is complete: the next one is due a period after its release
+abbrev pub next_job : Row → Cell → Cell
+next_job row c = cell_of (instant (c.release.0 + row.period.0)) row
 
 -- the suspension behind a stretch starts at the instant `end`: the job's next stretch is ready when it ends
-abbrev pub next_stretch : Instant → List ℕ → Cell → Cell
-next_stretch end lane c =
+abbrev pub next_stretch : Instant → Row → Cell → Cell
+next_stretch end row c =
     record {
       release = c.release;
-      ready = instant (end.0 + time_at lane (c.place + 1));
+      ready = instant (end.0 + time_at row (c.place + 1));
       place = c.place + 2;
-      left = long (time_at lane (c.place + 2));
+      left = long (time_at row (c.place + 2));
     }
 
 -- a stretch has ended at the instant `end`: the job's last, or one with another behind it
-unfoldable pub ended_of : Instant → List ℕ → Cell → Cell
-ended_of end lane c = if is_zero (time_at lane (c.place + 2)) then next_job lane c else next_stretch end lane c
+abbrev pub ended_of : Instant → Row → Cell → Cell
+ended_of end row c = if is_zero (time_at row (c.place + 2)) then next_job row c else next_stretch end row c
 
 -- a row runs for the tick that begins at `from`: its stretch has a tick less to go, or ends with the tick
-unfoldable pub served_of : Instant → List ℕ → Cell → Cell
-served_of from lane c =
+abbrev pub served_of : Instant → Row → Cell → Cell
+served_of from row c =
     if ltb 1 c.left.0
     then record { release = c.release; ready = c.ready; place = c.place; left = long (c.left.0 - 1) }
-    else ended_of (instant (from.0 + 1)) lane c
+    else ended_of (instant (from.0 + 1)) row c
 
--- the first of the cells that is ready at `from`, or how many there are
-unfoldable pub highest : Instant → List Cell → ℕ
-highest from [] = 0
-highest from (c ∷ cs) = if leb c.ready.0 from.0 then 0 else suc (highest from cs)
+-- a cell's stretch is ready at an instant
+abbrev pub is_ready : Instant → Cell → Bool
+is_ready now c = leb c.ready.0 now.0
 
--- the row that runs in the next tick: the highest of the n rows that is ready; n where none is
-unfoldable pub runs : Machine → ℕ → ℕ
+-- the first of the cells that is ready
+abbrev pub highest : Instant → List Cell → Option ℕ
+highest now cells = position (is_ready now) cells
+
+-- the row that runs in the next tick: the highest of the n rows that is ready
+abbrev pub runs : Machine → ℕ → Option ℕ
 runs m n = highest m.now (take n m.cells)
+
+-- the cell of a place without a row
+abbrev pub no_cell : Cell
+no_cell = record { release = instant 0; ready = instant 0; place = 0; left = long 0 }
 
 -- a row's cell
 abbrev pub cell_at : Machine → ℕ → Cell
-cell_at m k = get_or m.cells k (record { release = instant 0; ready = instant 0; place = 0; left = long 0 })
+cell_at m k = get_or m.cells k no_cell
 
--- the cells after that tick: the row that runs is served, and no other cell changes
-unfoldable pub cells_of : Machine → ℕ → List (List ℕ) → List Cell
-cells_of m n plan =
-    if ltb (runs m n) n
-    then set m.cells (runs m n) (served_of m.now (get_or plan (runs m n) []) (cell_at m (runs m n)))
-    else m.cells
+-- the cells after a tick: the row that runs is served, and no other cell changes
+abbrev pub cells_of : Machine → List Row → Option ℕ → List Cell
+cells_of m rows (Some i) = set m.cells i (served_of m.now (get_or rows i no_value) (cell_at m i))
+cells_of m rows None = m.cells
 
 -- ONE TICK
-unfoldable pub tick_of : Machine → ℕ → List (List ℕ) → Machine
-tick_of m n plan = record { now = instant (m.now.0 + 1); ran = runs m n; cells = cells_of m n plan }
+abbrev pub tick_of : Machine → List Row → Machine
+tick_of m rows = record { now = instant (m.now.0 + 1); ran = runs m (length rows); cells = cells_of m rows (runs m (length rows)) }
 
 -- before the first tick
-unfoldable pub start_of : ℕ → List (List ℕ) → Machine
-start_of n plan = record { now = instant 0; ran = n; cells = map cell_of plan }
+abbrev pub start_of : List Row → Machine
+start_of rows = record { now = instant 0; ran = None; cells = map (cell_of (instant 0)) rows ++ replicate (most_rows - length rows) no_cell }
 
 -- after k ticks
-unfoldable pub ticked : ℕ → List (List ℕ) → ℕ → Machine
-ticked n plan zero = start_of n plan
-ticked n plan (suc k) = tick_of (ticked n plan k) n plan
+abbrev pub ticked : List Row → ℕ → Machine
+ticked rows zero = start_of rows
+ticked rows (suc k) = tick_of (ticked rows k) rows
+
+-- the rows of a table
+abbrev pub rows_of : Table → List Row
+rows_of v = take v.len v.rows
 
 -- the machine of a table's full run after k ticks
-abbrev pub run_of : TableValue → ℕ → Machine
-run_of v k = ticked v.len (plan_of v) k
+abbrev pub run_of : Table → ℕ → Machine
+run_of v k = ticked (rows_of v) k

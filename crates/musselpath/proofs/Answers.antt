@@ -1,38 +1,35 @@
 -- What the parts of the code answer is what the definitions say.
-use Rattle.std.specs.Prelude.{if◌then◌else◌}
+use Rattle.std.specs.Prelude.{Option, None, Result, Ok, Err, if◌then◌else◌}
 use mathlib.Core.Path.{◌≡◌, refl, sym, ap, ◌∙◌}
 use mathlib.Core.Bool.{Bool, true, false}
 use mathlib.Core.List.{List, [], ◌∷◌, ◌++◌, map}
-use mathlib.Core.Option.{Option, none, some}
+use mathlib.Core.Option.{Option as Maybe, none, some}
 use Prim.Native.Nat.{ℕ, ◌+◌, ◌-◌, ◌*◌, ◌≤◌, ◌<◌}
 use native.Mathlib.Omega.{arith}
 use native.Mathlib.Numerals.{add-one}
-use lib.Dec.{leb}
-use lib.ListN.{length, get_or, replicate, length-map, length-append, length-replicate}
+use lib.Dec.{leb, ltb}
+use lib.Seq.{take-suc}
+use lib.ListN.{length, take, get_or, replicate, length-map, length-append, length-replicate}
 use Rattle.words.specs.Buffer.{fitted}
 use Rattle.words.specs.Lists.{below}
-use Rattle.words.proofs.Lists.{get_d_any}
-use Rattle.words.proofs.Filled.{map_below, length-below, below-same, filled_at}
+use Rattle.words.proofs.Filled.{map_snoc, take_below, length-below, below-same, filled_at}
 use Rattle.refusals.specs.declared.Refusal.{Refusal}
 use Rattle.refusals.specs.declared.Refusal.TheVariants.{NoText, LongText, NoLineFeed, ManyLines, AfterWaiting, FieldCount, BadName, BadNumber, LateDeadline, LongTimes, NameTaken, BadTable, NoSuchRow, NoRoom, ManyTicks}
 use Rattle.refusals.specs.Refusals.{number_of, line_of, field_of}
+use Rattle.ticks.specs.declared.Instant.{Instant}
 use Rattle.table.specs.Limits.{most_rows, most_ticks}
 use Rattle.table.specs.Paper.{row_at}
 use Rattle.table.specs.Value.{table_of, well_formed}
 use Rattle.table.specs.declared.Table.{Table as TableValue}
-use Rattle.text.specs.declared.Written.TheVariants.{Bytes, Refused}
-use Rattle.text.specs.Read.{read_text, refused}
+use Rattle.text.specs.Read.{Answer, accepted, refused, read_text}
 use Rattle.text.specs.Write.{length_in}
 use Rattle.table.proofs.Used.{len_is, len-most}
-use Rattle.machine.specs.declared.First.TheVariants.{At}
-use Rattle.machine.specs.declared.Slot.{Slot}
-use Rattle.machine.specs.declared.FullRun.{FullRun}
 use Rattle.kernel.specs.Completion.{completion}
-use Rattle.machine.specs.Run.{slot_of, no_slot, completions, full_run}
+use Rattle.machine.specs.Run.{completion_value, completions, full_run}
 use Rattle.machine.proofs.Completions.{run-there}
 use Rattle.text.proofs.Numbers.{text-refuses}
-use Rattle.musselpath.specs.Boundary.{instant_of, instants, shift, number_in, line_in, field_in, run_answered}
-use Rattle.musselpath.specs.Parts.{first_number, numbers_of}
+use Rattle.musselpath.specs.Boundary.{instant_of, instants, shift, number_in, line_in, field_in, packed, answer_for, run_answered}
+use Rattle.musselpath.specs.Parts.{first_number, numbers_of, ran}
 
 -- a refusal's number is small
 pub number_small : (why : Refusal) → number_of why ≤ 23
@@ -66,57 +63,102 @@ place-comes-out s why n d e =
     rw e (come-out (number_of why) (line_of why) (field_of why) (omega (arith, p.high)) (omega (arith, p.last)))
 
 -- how many bytes were put there, from what writing answered
-pub bytes-fitted : (bs d : List ℕ) (n : ℕ) → length_in bs d ≡ Bytes n → n ≡ fitted bs d
+pub bytes-fitted : (bs d : List ℕ) (n : ℕ) → length_in bs d ≡ Ok n → n ≡ fitted bs d
 unfolding fitted
 bytes-fitted bs d n e = go (leb (length bs) (length d)) e
   where
-    go : (b : Bool) → (if b then Bytes (length bs) else Refused NoRoom) ≡ Bytes n → n ≡ (if b then length bs else 0)
+    go : (b : Bool) → ◌≡◌ {A = Result ℕ Refusal} (if b then Ok (length bs) else Err NoRoom) (Ok n) → n ≡ (if b then length bs else 0)
     go true p = let z : length bs ≡ n = cc in sym z
-    go false p = absurd (let z : ◌≡◌ {A = ℕ} 0 1 = cc in omega arith)
+    go false p = cc
 
-pub refused-fitted : (bs d : List ℕ) (why : Refusal) → length_in bs d ≡ Refused why → 0 ≡ fitted bs d
+pub refused-fitted : (bs d : List ℕ) (why : Refusal) → length_in bs d ≡ Err why → 0 ≡ fitted bs d
 unfolding fitted
 refused-fitted bs d why e = go (leb (length bs) (length d)) e
   where
-    go : (b : Bool) → (if b then Bytes (length bs) else Refused NoRoom) ≡ Refused why → 0 ≡ (if b then length bs else 0)
-    go true p = absurd (let z : ◌≡◌ {A = ℕ} 0 1 = cc in omega arith)
+    go : (b : Bool) → ◌≡◌ {A = Result ℕ Refusal} (if b then Ok (length bs) else Err NoRoom) (Err why) → 0 ≡ (if b then length bs else 0)
+    go true p = cc
     go false p = refl
 
--- what the language says to stand behind the end of an array of answers
-abbrev behind : Slot
-behind = record { first = At (record { 0 = 0 }) }
-
--- one number more
-pub numbers-next : (slots : List Slot) (i : ℕ) → i < length slots → numbers_of slots (i + 1) ≡ numbers_of slots i ++ (first_number (get_or slots i behind).first ∷ [])
-numbers-next slots i h =
-    ap (numbers_of slots) (add-one i)
-    ∙ map_below (λ k. first_number (get_or slots k no_slot).first) i
-    ∙ ap (λ (s : Slot). numbers_of slots i ++ (first_number s.first ∷ [])) (get_d_any slots i no_slot behind h)
-
 -- a completion on paper and as the machine has it
-first-is : (o : Option ℕ) → first_number (slot_of o).first ≡ instant_of o
+first-is : (o : Maybe ℕ) → first_number (completion_value o) ≡ instant_of o
 first-is (some c) = refl
 first-is none = refl
 
-module _ (v : TableValue) (n : ℕ) (ok : well_formed v ≡ true) (few : n ≤ most_ticks) where
-  -- 16 answers, used or not
-  pub answers-length : (r : FullRun) → r ≡ full_run v n → length r.rows ≡ most_rows
-  unfolding completions
-  answers-length r e =
-      let t = table_of v in
-      let f : ℕ → Slot = λ k. slot_of (completion (row_at t) k n) in
-      let a : length (map f (below (length t))) ≡ length t = length-map (below (length t)) f ∙ length-below (length t) in
-      let b : length (replicate (most_rows - length t) (slot_of none)) ≡ most_rows - length t = length-replicate (most_rows - length t) (slot_of none) in
-      ap (λ (s : FullRun). length s.rows) (e ∙ run-there v n ok few)
-      ∙ length-append (map f (below (length t))) (replicate (most_rows - length t) (slot_of none))
-      ∙ omega (arith, len_is v ok, len-most v ok)
+-- one number more
+pub numbers-next : (firsts : List (Option Instant)) (i : ℕ) → i < length firsts
+    → numbers_of (take (i + 1) firsts) ≡ numbers_of (take i firsts) ++ (first_number (get_or firsts i None) ∷ [])
+numbers-next firsts i h = rw (add-one, take-suc firsts i None h) (map_snoc first_number (take i firsts) (get_or firsts i None))
 
-  -- the numbers of all rows
-  pub numbers-are : (r : FullRun) (m : ℕ) → r ≡ full_run v n → m ≡ length (table_of v) → numbers_of r.rows m ≡ instants (table_of v) n
-  unfolding instants completions
-  numbers-are r m e l =
-      let t = table_of v in
-      ap (λ (slots : List Slot). numbers_of slots m) (ap (λ (s : FullRun). s.rows) (e ∙ run-there v n ok few))
-      ∙ ap (numbers_of (completions t n)) l
-      ∙ below-same (λ k. first_number (get_or (completions t n) k no_slot).first) (λ k. instant_of (completion (row_at t) k n)) (length t)
-      (λ k h. ap (λ (s : Slot). first_number s.first) (filled_at (λ i. slot_of (completion (row_at t) i n)) (length t) _ no_slot k h) ∙ first-is (completion (row_at t) k n))
+module _ (v : TableValue) (n : ℕ) (ok : well_formed v ≡ true) (few : n ≤ most_ticks) where
+  module _ (firsts : List (Option Instant)) (e : Ok firsts ≡ full_run v n) where
+    firsts-are : firsts ≡ completions (table_of v) n
+    firsts-are =
+        let z : ◌≡◌ {A = Result (List (Option Instant)) Refusal} (Ok firsts) (Ok (completions (table_of v) n)) = e ∙ run-there v n ok few in
+        cc
+
+    -- 16 answers, used or not
+    pub answers-length : length firsts ≡ most_rows
+    unfolding completions
+    answers-length =
+        let t = table_of v in
+        let f : ℕ → Option Instant = λ k. completion_value (completion (row_at t) k n) in
+        let a : length (map f (below (length t))) ≡ length t = length-map (below (length t)) f ∙ length-below (length t) in
+        let b : length (replicate {A = Option Instant} (most_rows - length t) None) ≡ most_rows - length t = length-replicate (most_rows - length t) None in
+        ap length firsts-are
+        ∙ length-append (map f (below (length t))) (replicate (most_rows - length t) None)
+        ∙ omega (arith, len_is v ok, len-most v ok)
+
+    -- the numbers of all rows
+    pub numbers-are : numbers_of (take v.len firsts) ≡ instants (table_of v) n
+    unfolding instants completions
+    numbers-are =
+        let t = table_of v in
+        take_below first_number firsts None v.len (omega (arith, answers-length, len-most v ok))
+        ∙ ap (λ m. map (λ k. first_number (get_or firsts k None)) (below m)) (len_is v ok)
+        ∙ below-same (λ k. first_number (get_or firsts k None)) (λ k. instant_of (completion (row_at t) k n)) (length t)
+        (λ k h. ap (λ l. first_number (get_or l k None)) firsts-are
+        ∙ ap first_number (filled_at (λ i. completion_value (completion (row_at t) i n)) (length t) _ None k h) ∙ first-is (completion (row_at t) k n))
+
+-- a table that is in use has its run
+pub run-some : (v : TableValue) (n : ℕ) (why : Refusal) → well_formed v ≡ true → n ≤ most_ticks → Err why ≡ full_run v n → ⊥
+run-some v n why ok few e =
+    let z : ◌≡◌ {A = Result (List (Option Instant)) Refusal} (Err why) (Ok (completions (table_of v) n)) = e ∙ run-there v n ok few in
+    cc
+
+-- what C is answered, from the run of a text
+pub answered-ran : (a : Answer) (n : ℕ) (d : List ℕ) → Ok tt ≡ ran a n d → 0 ≡ answer_for a n d
+answered-ran (refused why) n d e = cc
+answered-ran (accepted t) n d e = go (ltb most_ticks n) (ltb (length d) (length t)) e
+  where
+    go : (b c : Bool) → ◌≡◌ {A = Result (Unit {0}) Refusal} (Ok tt) (if b then Err ManyTicks else if c then Err NoRoom else Ok tt)
+        → 0 ≡ (if b then packed ManyTicks else if c then packed NoRoom else 0)
+    go true c e = cc
+    go false true e = cc
+    go false false e = refl
+
+pub answered-refused : (a : Answer) (n : ℕ) (d : List ℕ) (why : Refusal) → Err why ≡ ran a n d → packed why ≡ answer_for a n d
+answered-refused (refused x) n d why e = let z : why ≡ x = cc in ap packed z
+answered-refused (accepted t) n d why e = go (ltb most_ticks n) (ltb (length d) (length t)) e
+  where
+    go : (b c : Bool) → ◌≡◌ {A = Result (Unit {0}) Refusal} (Err why) (if b then Err ManyTicks else if c then Err NoRoom else Ok tt)
+        → packed why ≡ (if b then packed ManyTicks else if c then packed NoRoom else 0)
+    go true c e = let z : why ≡ ManyTicks = cc in ap packed z
+    go false true e = let z : why ≡ NoRoom = cc in ap packed z
+    go false false e = cc
+
+-- its place fits into the number
+pub place-small : (s : List ℕ) (n : ℕ) (d : List ℕ) (why : Refusal) → Err why ≡ ran (read_text s) n d → (line_of why ≤ shift) × (field_of why ≤ shift)
+place-small s n d why e = go (read_text s) refl e
+  where
+    go : (a : Answer) → read_text s ≡ a → Err why ≡ ran a n d → (line_of why ≤ shift) × (field_of why ≤ shift)
+    go (refused x) q e =
+        let z : why ≡ x = cc in
+        let p = text-refuses s x q in
+        rw z (omega (arith, p.last), omega (arith, p.field))
+    go (accepted t) q e = test (ltb most_ticks n) (ltb (length d) (length t)) e
+      where
+        test : (b c : Bool) → ◌≡◌ {A = Result (Unit {0}) Refusal} (Err why) (if b then Err ManyTicks else if c then Err NoRoom else Ok tt)
+            → (line_of why ≤ shift) × (field_of why ≤ shift)
+        test true c e = let z : why ≡ ManyTicks = cc in rw z (omega arith, omega arith)
+        test false true e = let z : why ≡ NoRoom = cc in rw z (omega arith, omega arith)
+        test false false e = cc

@@ -1,5 +1,5 @@
 -- Demand 2 of specs/Demands, shown.
-use Rattle.std.specs.Prelude.{if◌then◌else◌}
+use Rattle.std.specs.Prelude.{Option as Maybe, Some, None, Result, Ok, Err, if◌then◌else◌}
 use mathlib.Core.Path.{◌≡◌, refl, sym, ap, ◌∙◌, subst}
 use mathlib.Core.Bool.{Bool, true, false, false≢true}
 use mathlib.Core.List.{List, [], ◌∷◌, map}
@@ -31,10 +31,7 @@ use Rattle.table.specs.Paper.{Table, row_at, Part, part, parts, total, waits, ri
 use Rattle.table.specs.Value.{table_of, table_value, well_formed}
 use Rattle.table.specs.declared.Table.{Table as TableValue}
 use Rattle.table.proofs.Rules.{value-forth, value-back, value-right, table-right, table-size}
-use Rattle.text.specs.declared.Outcome.TheVariants.{Accepted}
-use Rattle.text.specs.declared.Reading.{Reading}
-use Rattle.text.specs.declared.Written.TheVariants.{Bytes, Refused as NotWritten}
-use Rattle.text.specs.Read.{Answer, accepted, refused, read_text, reading_of, number_of_outcome, line_of_outcome, field_of_outcome}
+use Rattle.text.specs.Read.{Answer, accepted, refused, read_text, reading_of, table_in, number_of_outcome, line_of_outcome, field_of_outcome}
 use Rattle.text.specs.Write.{table_text, length_in, written, written_into, number_of_written}
 use Rattle.text.proofs.Back.{text-back, text-right, text-one}
 use Rattle.text.proofs.Forth.{text-forth}
@@ -42,17 +39,15 @@ use Rattle.text.proofs.Fits.{text-fits}
 use Rattle.text.proofs.Numbers.{text-refuses, Fared, empty, long as too_many, unended, lined, fared}
 use Rattle.verdicts.specs.Verdicts.{figure_of, fits, misses, overall}
 use Rattle.verdicts.specs.declared.Bound.TheVariants.{Whole, Split}
-use Rattle.verdicts.specs.declared.Figure.TheVariants.{Is, No}
 use Rattle.verdicts.specs.declared.Verdict.{Verdict}
 use Rattle.verdicts.specs.declared.Verdict.TheVariants.{Fits, Misses, Open}
+use Rattle.verdicts.specs.declared.TableVerdict.{TableVerdict}
 use Rattle.verdicts.specs.declared.TableVerdict.TheVariants.{Fits as TableFits, Misses as TableMisses, Open as TableOpen}
 use Rattle.figures.specs.declared.RowFigures.{RowFigures}
-use Rattle.figures.specs.declared.Slot.{Slot}
 use Rattle.figures.specs.declared.TableFigures.{TableFigures}
-use Rattle.figures.specs.declared.Answer.TheVariants.{Row as RowIs, Refused as NoFigures}
 use Rattle.recurrence.specs.Fixed.{Took}
 use Rattle.recurrence.specs.Figures.{result, rounds, own, whole, plus, split, split_from, split_rounds, verdict, with_split, row_rounds, unless_none}
-use Rattle.figures.specs.Answers.{split_shown, figures_of, row_answer, verdicts, table_verdict, slot_of, slots, table_figures}
+use Rattle.figures.specs.Answers.{split_shown, figures_of, row_answer, verdicts, table_verdict, answers, table_figures}
 use Rattle.recurrence.proofs.Rows.{sane, one_time, more-times}
 use Rattle.recurrence.proofs.Verdicts.{stretch-none, stretch-took, whole-took}
 use Rattle.recurrence.proofs.Verdicts.{split-some, stretch-fixed, whole-fixed, one-fits, one-misses, one-whole, one-open, one-rounds, waiting-whole}
@@ -62,7 +57,7 @@ use Rattle.report.proofs.Fits.{answer-fits}
 use Rattle.runs.specs.Runs.{run_text, ran_in, ran_into}
 use Rattle.runs.proofs.Fits.{run_fits}
 use Rattle.musselpath.specs.Boundary.{instants, answer_for, left_for, run_answered, run_left}
-use Rattle.promises.specs.Demands.{reading, text_number, answered_in, answered_into, due, row, f, Told, Added, no_more, one_more}
+use Rattle.promises.specs.Demands.{verdict_in, rows_in, reading, text_number, answered_in, answered_into, due, row, f, Told, Added, no_more, one_more}
 use Rattle.promises.specs.Demands.{TookSplit, none_left, passed, next_one, TextBack, OneText, TableBack, Reported, Answered, AnswerRoom, RunWritten}
 use Rattle.promises.specs.Demands.{Given, WholeBound, SplitBound, OneStretch, WaitingRow, Rounds, TableJudged}
 use Rattle.promises.proofs.Finish.{Positive}
@@ -79,13 +74,13 @@ never e = absurd (omega arith)
 accepted-text : (s : List ℕ) → text_number s ≡ 0 → (t : Table) × (read_text s ≡ accepted t)
 accepted-text s z = go (read_text s) refl z
   where
-    go : (a : Answer) → read_text s ≡ a → number_of_outcome (reading_of a).outcome ≡ 0 → (t : Table) × (read_text s ≡ accepted t)
+    go : (a : Answer) → read_text s ≡ a → number_of_outcome (reading_of a) ≡ 0 → (t : Table) × (read_text s ≡ accepted t)
     go (accepted t) e z = (t, e)
     go (refused why) e z = absurd (omega (arith, (text-refuses s why e).low))
 
 -- the table of an accepted text
-text-table : (s : List ℕ) (t : Table) → read_text s ≡ accepted t → (reading s).table ≡ table_value t
-text-table s t e = ap (λ a. (reading_of a).table) e
+text-table : (s : List ℕ) (t : Table) → read_text s ≡ accepted t → table_in (reading s) ≡ table_value t
+text-table s t e = ap (λ a. table_in (reading_of a)) e
 
 pub demand-2-text : TextBack
 unfolding written written_into
@@ -93,8 +88,8 @@ demand-2-text s d z =
     let x = accepted-text s z in
     let t = x.0 in
     let r = text-right s t x.1 in
-    let w : well_formed (reading s).table ≡ true = ap well_formed (text-table s t x.1) ∙ value-right t r in
-    let b : table_text (table_of (reading s).table) ≡ s
+    let w : well_formed (table_in (reading s)) ≡ true = ap well_formed (text-table s t x.1) ∙ value-right t r in
+    let b : table_text (table_of (table_in (reading s))) ≡ s
     = ap (λ v. table_text (table_of v)) (text-table s t x.1) ∙ ap table_text (value-back t (table-right t r)) ∙ text-back s t x.1 in
     (sym b, if-true _ _ w ∙ ap (λ l. length_in l d) b, if-true _ _ w ∙ ap (λ l. placed l d) b)
 
@@ -109,13 +104,13 @@ demand-2-one s r y z e =
     text-one s r q.0 (p.1 ∙ ap accepted g) q.1
 
 -- a buffer into which bytes were put begins with them
-written-front : (b : Bool) (bs d : List ℕ) (m : ℕ) → (if b then length_in bs d else NotWritten BadTable) ≡ Bytes m
+written-front : (b : Bool) (bs d : List ℕ) (m : ℕ) → ◌≡◌ {A = Result ℕ Refusal} (if b then length_in bs d else Err BadTable) (Ok m)
     → (b ≡ true) × (take m (if b then placed bs d else d) ≡ bs)
 unfolding placed over
 written-front false bs d m e = never (cc)
 written-front true bs d m e = (refl, go (leb (length bs) (length d)) e)
   where
-    go : (c : Bool) → (if c then Bytes (length bs) else NotWritten NoRoom) ≡ Bytes m → take m (if c then over bs d else d) ≡ bs
+    go : (c : Bool) → ◌≡◌ {A = Result ℕ Refusal} (if c then Ok (length bs) else Err NoRoom) (Ok m) → take m (if c then over bs d else d) ≡ bs
     go true e = let z : m ≡ length bs = cc in ap (λ k. take k (over bs d)) z ∙ take-append_seam bs _
     go false e = never (cc)
 
@@ -123,11 +118,11 @@ pub demand-2-table : TableBack
 unfolding written written_into
 demand-2-table v d = (back, room)
   where
-    back : (m : ℕ) → written v d ≡ Bytes m → reading (take m (written_into v d)) ≡ record { outcome = Accepted; table = v }
+    back : (m : ℕ) → written v d ≡ Ok m → reading (take m (written_into v d)) ≡ Ok v
     back m e =
         let w = written-front (well_formed v) (table_text (table_of v)) d m e in
         let g = value-forth v w.0 in
-        ap reading w.1 ∙ ap reading_of (text-forth (table_of v) g.1) ∙ ap (λ x. record { outcome = Accepted; table = x }) (sym g.0)
+        ap reading w.1 ∙ ap reading_of (text-forth (table_of v) g.1) ∙ ap Ok (sym g.0)
 
     room : well_formed v ≡ true → longest_text ≤ length d → number_of_written (written v d) ≡ 0
     room ok h =
@@ -142,7 +137,7 @@ pub demand-2-answer : Answered
 unfolding answer_text refused_line
 demand-2-answer s = (right, wrong, cut (dec_le (length s) (longest_text + 1)))
   where
-    right : text_number s ≡ 0 → answer_text s ≡ report_text (table_of (reading s).table)
+    right : text_number s ≡ 0 → answer_text s ≡ report_text (table_of (table_in (reading s)))
     right z =
         let x = accepted-text s z in
         let t = x.0 in
@@ -164,13 +159,13 @@ demand-2-answer s = (right, wrong, cut (dec_le (length s) (longest_text + 1)))
         let l : length (take (longest_text + 1) s) ≡ longest_text + 1 = length-take-le (longest_text + 1) s (omega arith) in
         ap answer_to (too_long (take (longest_text + 1) s) (omega arith) ∙ sym (too_long s (omega arith)))
 
-    line-of : (why : Refusal) → Reading → List ℕ
+    line-of : (why : Refusal) → Result TableValue Refusal → List ℕ
     line-of why r = line (spelled "refused")
-        (digits (number_of_outcome r.outcome) ∷ digits (line_of_outcome r.outcome) ∷ digits (field_of_outcome r.outcome) ∷ [])
+        (digits (number_of_outcome r) ∷ digits (line_of_outcome r) ∷ digits (field_of_outcome r) ∷ [])
 
     wrong : (text_number s ≡ 0 → ⊥)
         → answer_text s ≡ line (spelled "refused")
-        (digits (text_number s) ∷ digits (line_of_outcome (reading s).outcome) ∷ digits (field_of_outcome (reading s).outcome) ∷ [])
+        (digits (text_number s) ∷ digits (line_of_outcome (reading s)) ∷ digits (field_of_outcome (reading s)) ∷ [])
     wrong z =
         let x = refused-text s z in
         let why = x.0 in
@@ -187,19 +182,19 @@ demand-2-room s d = (number, nothing, room)
     number : number_of_written (answered_in s d) ≡ due true true true (leb (length (answer_text s)) (length d))
     number = go (leb (length (answer_text s)) (length d))
       where
-        go : (c : Bool) → number_of_written (if c then Bytes (length (answer_text s)) else NotWritten NoRoom) ≡ due true true true c
+        go : (c : Bool) → number_of_written (if c then Ok (length (answer_text s)) else Err NoRoom) ≡ due true true true c
         go true = refl
         go false = refl
 
     nothing : (number_of_written (answered_in s d) ≡ 0 → ⊥) → answered_into s d ≡ d
     nothing = go (leb (length (answer_text s)) (length d))
       where
-        go : (c : Bool) → (number_of_written (if c then Bytes (length (answer_text s)) else NotWritten NoRoom) ≡ 0 → ⊥)
+        go : (c : Bool) → (number_of_written (if c then Ok (length (answer_text s)) else Err NoRoom) ≡ 0 → ⊥)
             → (if c then over (answer_text s) d else d) ≡ d
         go true z = absurd (z refl)
         go false z = refl
 
-    room : longest_report ≤ length d → (answered_in s d ≡ Bytes (length (answer_text s))) × (answered_into s d ≡ over (answer_text s) d)
+    room : longest_report ≤ length d → (answered_in s d ≡ Ok (length (answer_text s))) × (answered_into s d ≡ over (answer_text s) d)
     room h =
         let l : leb (length (answer_text s)) (length d) ≡ true = le-leb _ (length d) (omega (arith, answer-fits s)) in
         (if-true _ _ l, if-true _ _ l)
@@ -210,7 +205,7 @@ demand-2-run s m d z few =
     let x = accepted-text s z in
     let t = x.0 in
     let r = text-right s t x.1 in
-    let b : t ≡ table_of (reading s).table = sym (ap table_of (text-table s t x.1) ∙ value-back t (table-right t r)) in
+    let b : t ≡ table_of (table_in (reading s)) = sym (ap table_of (text-table s t x.1) ∙ value-back t (table-right t r)) in
     let l = le-ltb most_ticks m few in
     let written_is : ran_in (read_text s) m d ≡ length_in (run_text t m) d = ap (λ a. ran_in a m d) x.1 ∙ if-false _ _ l in (
       written_is ∙ ap (λ u. length_in (run_text u m) d) b,
@@ -229,43 +224,41 @@ demand-2-run s m d z few =
 -- figures
 
 pub demand-2-given : Given
-unfolding table_figures slots row_answer
+unfolding table_figures answers row_answer
 demand-2-given v ok = ((λ n h l. (figures_of (row_at (table_of v)) (n - 1), told v n ok h l)), sixteen, at)
   where
     t : Table
     t = table_of v
 
-    answers : ℕ → Slot
-    answers k = slot_of (RowIs (figures_of (row_at t) k))
+    told_at : ℕ → Result RowFigures Refusal
+    told_at k = Ok (figures_of (row_at t) k)
 
-    sixteen : length (table_figures v).rows ≡ most_rows
+    behind : List (Result RowFigures Refusal)
+    behind = replicate (most_rows - length t) (Err NoSuchRow)
+
+    sixteen : length (rows_in (table_figures v)) ≡ most_rows
     sixteen =
-        let a : length (map answers (below (length t))) ≡ length t = length-map (below (length t)) answers ∙ length-below (length t) in
-        let b : length (replicate (most_rows - length t) (slot_of (NoFigures NoSuchRow))) ≡ most_rows - length t = length-replicate (most_rows - length t) _ in
-        ap (λ (x : TableFigures). length x.rows) (if-true _ _ ok)
-        ∙ length-append (map answers (below (length t))) (replicate (most_rows - length t) (slot_of (NoFigures NoSuchRow)))
+        let a : length (map told_at (below (length t))) ≡ length t = length-map (below (length t)) told_at ∙ length-below (length t) in
+        let b : length behind ≡ most_rows - length t = length-replicate (most_rows - length t) _ in
+        ap (λ (x : Result TableFigures Refusal). length (rows_in x)) (if-true _ _ ok)
+        ∙ length-append (map told_at (below (length t))) behind
         ∙ omega (arith, (table-size t (value-forth v ok).1).1)
 
-    at : (n : ℕ) → 1 ≤ n → n ≤ most_rows → (get_or (table_figures v).rows (n - 1) (slot_of (NoFigures NoSuchRow))).answer ≡ row_answer v n
-    at n h l = ap (λ (x : TableFigures). (get_or x.rows (n - 1) (slot_of (NoFigures NoSuchRow))).answer) (if-true _ _ ok) ∙ go (dec_le n (length t))
+    at : (n : ℕ) → 1 ≤ n → n ≤ most_rows → get_or (rows_in (table_figures v)) (n - 1) (Err NoSuchRow) ≡ row_answer v n
+    at n h l = ap (λ (x : Result TableFigures Refusal). get_or (rows_in x) (n - 1) (Err NoSuchRow)) (if-true _ _ ok) ∙ go (dec_le n (length t))
       where
-        go : Dec (n ≤ length t) → (get_or (slots t) (n - 1) (slot_of (NoFigures NoSuchRow))).answer ≡ row_answer v n
-        go (yes y) =
-            ap (λ (x : Slot). x.answer)
-            (filled_at (λ k. slot_of (RowIs (figures_of (row_at t) k))) (length t) (replicate (most_rows - length t) (slot_of (NoFigures NoSuchRow)))
-            (slot_of (NoFigures NoSuchRow)) (n - 1) (omega arith))
-            ∙ sym (told v n ok h y)
+        go : Dec (n ≤ length t) → get_or (answers t) (n - 1) (Err NoSuchRow) ≡ row_answer v n
+        go (yes y) = filled_at told_at (length t) behind (Err NoSuchRow) (n - 1) (omega arith) ∙ sym (told v n ok h y)
         go (no y) =
-            ap (λ (x : Slot). x.answer)
-            (filled-behind (map (λ k. slot_of (RowIs (figures_of (row_at t) k))) (below (length t))) (most_rows - length t) (n - 1) (slot_of (NoFigures NoSuchRow))
-            (omega (arith, length-map (below (length t)) (λ k. slot_of (RowIs (figures_of (row_at t) k))), length-below (length t))))
+            filled-behind (map told_at (below (length t))) (most_rows - length t) (n - 1) (Err NoSuchRow)
+            (omega (arith, length-map (below (length t)) told_at, length-below (length t)))
             ∙ sym (if-true _ _ ok ∙ if-false _ _ (and-last-false (leb 1 n) (lt-leb n (length t) (omega arith))))
 
-figure-is : (o : Option ℕ) (R : ℕ) → (figure_of o ≡ Is (long R)) ↔ (o ≡ some R)
+figure-is : (o : Option ℕ) (R : ℕ) → (figure_of o ≡ Some (long R)) ↔ (o ≡ some R)
 figure-is none R = ((λ e. never (cc)), (λ e. never (cc)))
 figure-is (some x) R = ((λ e. (let z : long x ≡ long R = cc in ap (λ (l : Length). some l.0) z)), (λ e. ap figure_of e))
 
-figure-no : (o : Option ℕ) → (figure_of o ≡ No) ↔ (o ≡ none)
+figure-no : (o : Option ℕ) → (figure_of o ≡ None) ↔ (o ≡ none)
 figure-no none = ((λ e. refl), (λ e. refl))
 figure-no (some x) = ((λ e. never (cc)), (λ e. never (cc)))
 
@@ -283,15 +276,15 @@ module _ (v : TableValue) (n : ℕ) (a : RowFigures) (q : Asked v n a) where
   pub verdict-is : a.verdict ≡ verdict (row_at (table_of v)) (n - 1)
   verdict-is = ap (λ (x : RowFigures). x.verdict) q.is
 
-  pub whole_is : (R : ℕ) → (a.whole ≡ Is (long R)) ↔ (whole (row_at (table_of v)) (n - 1) ≡ some R)
+  pub whole_is : (R : ℕ) → (a.whole ≡ Some (long R)) ↔ (whole (row_at (table_of v)) (n - 1) ≡ some R)
   whole_is R = Iff.trans (same (ap (λ (x : RowFigures). x.whole) q.is)) (figure-is (whole (row_at (table_of v)) (n - 1)) R)
 
-  whole-no : (a.whole ≡ No) ↔ (whole (row_at (table_of v)) (n - 1) ≡ none)
+  whole-no : (a.whole ≡ None) ↔ (whole (row_at (table_of v)) (n - 1) ≡ none)
   whole-no = Iff.trans (same (ap (λ (x : RowFigures). x.whole) q.is)) (figure-no (whole (row_at (table_of v)) (n - 1)))
 
   -- a row of one C
   module _ (one : waits (row v n) ≡ false) where
-    split-gone : a.split ≡ No
+    split-gone : a.split ≡ None
     split-gone =
         ap (λ (x : RowFigures). x.split) q.is
         ∙ ap (λ l. figure_of (split_shown (parts l) (split (row_at (table_of v)) (n - 1)))) (one_time (row v n) (rules (n - 1) (omega arith)) one).1
@@ -309,10 +302,10 @@ module _ (v : TableValue) (n : ℕ) (a : RowFigures) (q : Asked v n a) where
         ap (λ (x : RowFigures). x.split) q.is
         ∙ ap (λ l. figure_of (split_shown (parts l) (split (row_at (table_of v)) (n - 1)))) (more-times (row v n) (rules (n - 1) (omega arith)) more).4
 
-    split-is : (B : ℕ) → (a.split ≡ Is (long B)) ↔ (split (row_at (table_of v)) (n - 1) ≡ some B)
+    split-is : (B : ℕ) → (a.split ≡ Some (long B)) ↔ (split (row_at (table_of v)) (n - 1) ≡ some B)
     split-is B = Iff.trans (same split-there) (figure-is (split (row_at (table_of v)) (n - 1)) B)
 
-    split-no : (a.split ≡ No) ↔ (split (row_at (table_of v)) (n - 1) ≡ none)
+    split-no : (a.split ≡ None) ↔ (split (row_at (table_of v)) (n - 1) ≡ none)
     split-no = Iff.trans (same split-there) (figure-no (split (row_at (table_of v)) (n - 1)))
 
     rounds-more : a.rounds ≡ whole_rounds v n + split_rounds (row_at (table_of v)) (n - 1) (parts (row v n).times)
@@ -511,9 +504,9 @@ module _ (v : TableValue) (ok : well_formed v ≡ true) where
         (ap misses (sym (verdict-is v x.0 x.1 q) ∙ x.3))),
   )
 
-  overall-is : (table_figures v).verdict ≡ overall (verdicts (table_of v))
+  overall-is : verdict_in (table_figures v) ≡ Some (overall (verdicts (table_of v)))
   unfolding table_figures table_verdict
-  overall-is = ap (λ (x : TableFigures). x.verdict) (if-true _ _ ok)
+  overall-is = ap verdict_in (if-true _ _ ok)
 
   one_way : all fits (verdicts (table_of v)) ≡ true → any misses (verdicts (table_of v)) ≡ false
   one_way e =
@@ -522,17 +515,21 @@ module _ (v : TableValue) (ok : well_formed v ≡ true) where
       let x = misses-some.0 m in
       not-both x.1.verdict (fits_all.0 e x.0 x.1 x.2) (ap misses x.3))
 
+-- two verdicts that are there
+inside : {x y : TableVerdict} → (◌≡◌ {A = Maybe TableVerdict} (Some x) (Some y)) ↔ (x ≡ y)
+inside = ((λ e. cc), (λ e. ap Some e))
+
 pub demand-2-verdict : TableJudged
 demand-2-verdict v ok =
     let o = overall-is v ok in
     let fa = fits_all v ok in
     let ms = misses-some v ok in
     let s = status (all fits (verdicts (table_of v))) (any misses (verdicts (table_of v))) (one_way v ok) in (
-      Iff.trans (same o) (Iff.trans s.0 fa),
-      Iff.trans (same o) (Iff.trans s.1 ms),
+      Iff.trans (same o) (Iff.trans inside (Iff.trans s.0 fa)),
+      Iff.trans (same o) (Iff.trans inside (Iff.trans s.1 ms)),
       Iff.trans (same o)
-          (Iff.trans s.2 (
+          (Iff.trans inside (Iff.trans s.2 (
             (λ h. ((λ g. false≢true (sym h.0 ∙ fa.1 g)), (λ n a t m. false≢true (sym h.1 ∙ ms.1 (n, a, t, m))))),
             (λ h. (not-true _ (λ e. h.0 (fa.0 e)), not-true _ (λ e. let x = ms.0 e in h.1 x.0 x.1 x.2 x.3))),
-          )),
+          ))),
     )

@@ -10,6 +10,8 @@ use native.Mathlib.Decide.{dec_le}
 use lib.ListN.{length, get_or}
 use Rattle.words.proofs.Filled.{filled_at}
 use Rattle.ticks.specs.Ticks.{instant}
+use Rattle.std.specs.Prelude.{Option as Maybe, Some, None, Result}
+use Rattle.refusals.specs.declared.Refusal.{Refusal}
 use Rattle.ticks.specs.declared.Length.{Length}
 use Rattle.ticks.specs.declared.Instant.{Instant}
 use Rattle.table.specs.Limits.{most_ticks}
@@ -27,12 +29,9 @@ use Rattle.recurrence.proofs.Verdicts.{of_bound, fits_bound, whole-fixed}
 use Rattle.kernel.specs.Rules.{after, full, Complete}
 use Rattle.kernel.specs.Completion.{completion}
 use Rattle.kernel.proofs.Ended.{complete-same, completion-same}
-use Rattle.machine.specs.declared.First.TheVariants.{At, Not}
-use Rattle.machine.specs.declared.FullRun.{FullRun}
-use Rattle.machine.specs.declared.Slot.{Slot}
-use Rattle.machine.specs.Run.{slot_of, completions}
+use Rattle.machine.specs.Run.{completion_value, completions}
 use Rattle.machine.proofs.Completions.{run-there}
-use Rattle.promises.specs.Demands.{row, Added, no_more, one_more, completed, InTime, FullRunLegal, Ended, Exact, Missed}
+use Rattle.promises.specs.Demands.{firsts_in, row, Added, no_more, one_more, completed, InTime, FullRunLegal, Ended, Exact, Missed}
 use Rattle.promises.proofs.Fits.{fits-deadline, fits-in-time}
 use Rattle.promises.proofs.Exact.{full-legal, exact-before, exact-from, exact-misses}
 use Rattle.promises.proofs.Told.{Asked, asked, right-table, there, right-rows}
@@ -95,11 +94,11 @@ completion-from rows k F m p before at = (there, missing)
             absurd (before c f.ticked (omega (arith, f.inside)) ((complete-same 0 (after (full rows) c k)).1 f.ended))
 
 completed-is : (v : TableValue) (m n : ℕ) → well_formed v ≡ true → m ≤ most_ticks → n - 1 < length (table_of v)
-    → completed v m n ≡ (slot_of (completion (row_at (table_of v)) (n - 1) m)).first
+    → completed v m n ≡ completion_value (completion (row_at (table_of v)) (n - 1) m)
 unfolding completions
 completed-is v m n ok h l =
-    ap (λ (r : FullRun). (get_or r.rows (n - 1) (slot_of none)).first) (run-there v m ok h)
-    ∙ ap (λ (s : Slot). s.first) (filled_at (λ i. slot_of (completion (row_at (table_of v)) i m)) (length (table_of v)) _ (slot_of none) (n - 1) l)
+    ap (λ (r : Result (List (Maybe Instant)) Refusal). get_or (firsts_in r) (n - 1) None) (run-there v m ok h)
+    ∙ filled_at (λ i. completion_value (completion (row_at (table_of v)) i m)) (length (table_of v)) _ None (n - 1) l
 
 pub demand-3-exact : Exact
 demand-3-exact v n a h one b R x = (reach, at)
@@ -121,7 +120,7 @@ demand-3-exact v n a h one b R x = (reach, at)
               (row v n).period (row-period (row v n) r),
         )
 
-    at : (m : ℕ) → m ≤ most_ticks → (R.0 ≤ m → completed v m n ≡ At (record { 0 = R.0 })) × (m < R.0 → completed v m n ≡ Not)
+    at : (m : ℕ) → m ≤ most_ticks → (R.0 ≤ m → completed v m n ≡ Some (record { 0 = R.0 })) × (m < R.0 → completed v m n ≡ None)
     at m l =
         let t = table_of v in
         let ok = right-table v n a q in
@@ -129,13 +128,13 @@ demand-3-exact v n a h one b R x = (reach, at)
         let c = completion-from (row_at t) (n - 1) R.0 m (positive-figure v n a q b R x) (exact-before t ok (n - 1) y one e)
         (exact-from t ok (n - 1) y one e R.0 (omega arith)) in
         let s = completed-is v m n q.good l y in
-        ((λ l. s ∙ ap (λ o. (slot_of o).first) (c.0 l)), (λ l. s ∙ ap (λ o. (slot_of o).first) (c.1 l)))
+        ((λ l. s ∙ ap completion_value (c.0 l)), (λ l. s ∙ ap completion_value (c.1 l)))
 
-first_some : (o : Option ℕ) (c : ℕ) → ((slot_of o).first ≡ At (instant c)) ↔ (o ≡ some c)
-first_some (some x) c = ((λ f. (let z : instant x ≡ instant c = cc in ap (λ (i : Instant). some i.0) z)), (λ e. ap (λ o. (slot_of o).first) e))
+first_some : (o : Option ℕ) (c : ℕ) → (completion_value o ≡ Some (instant c)) ↔ (o ≡ some c)
+first_some (some x) c = ((λ f. (let z : instant x ≡ instant c = cc in ap (λ (i : Instant). some i.0) z)), (λ e. ap completion_value e))
 first_some none c = ((λ f. absurd (let z : ◌≡◌ {A = ℕ} 0 1 = cc in omega arith)), (λ e. absurd (let z : ◌≡◌ {A = ℕ} 0 1 = cc in omega arith)))
 
-first-none : (o : Option ℕ) → ((slot_of o).first ≡ Not) ↔ ((c : ℕ) → o ≡ some c → ⊥)
+first-none : (o : Option ℕ) → (completion_value o ≡ None) ↔ ((c : ℕ) → o ≡ some c → ⊥)
 first-none (some x) = ((λ f. absurd (let z : ◌≡◌ {A = ℕ} 0 1 = cc in omega arith)), (λ h. absurd (h x refl)))
 first-none none = ((λ f c e. (let z : ◌≡◌ {A = ℕ} 0 1 = cc in omega arith)), (λ h. refl))
 

@@ -1,5 +1,5 @@
 -- The page of places, specs/Places, shown.
-use Rattle.std.specs.Prelude.{if◌then◌else◌}
+use Rattle.std.specs.Prelude.{Option as Maybe, Some, None, if◌then◌else◌}
 use mathlib.Core.Path.{◌≡◌, refl, sym, ap, ◌∙◌}
 use mathlib.Core.Bool.{Bool, true, false, not, false≢true}
 use mathlib.Core.List.{List, [], ◌∷◌, ◌++◌, map, append_assoc, append-nil}
@@ -13,8 +13,6 @@ use Rattle.words.specs.Lists.{sum, all, any}
 use Rattle.words.proofs.Choice.{and_parts, and_both, and-false, and-last-false}
 use Rattle.words.proofs.Lists.{lacks}
 use Rattle.decimal.specs.Decimal.{digits, read_number}
-use Rattle.decimal.specs.declared.Number.TheVariants.{Is, No}
-use Rattle.decimal.specs.declared.Number.{Number as Read}
 use Rattle.decimal.proofs.Reading.{number_digits, digits_number}
 use Rattle.fields.specs.Fields.{line_feed, joined}
 use Rattle.refusals.specs.declared.Refusal.{Refusal}
@@ -55,9 +53,9 @@ NumbersCause n f xs (got r) = Unit {0}
 NumbersCause n f xs (bad w) = NoNumber n f xs w
 
 -- a number reads as one
-number_read : (x : List ℕ) → Number x → read_number 1 largest_number x ≡ No → ⊥
+number_read : (x : List ℕ) → Number x → read_number 1 largest_number x ≡ None → ⊥
 number_read x (k, l, h, e) q =
-    let z : Is k ≡ No = sym (number_digits 1 largest_number k l h) ∙ ap (read_number 1 largest_number) (sym e) ∙ q in
+    let z : ◌≡◌ {A = Maybe ℕ} (Some k) None = sym (number_digits 1 largest_number k l h) ∙ ap (read_number 1 largest_number) (sym e) ∙ q in
     let y : ◌≡◌ {A = ℕ} 0 1 = cc in
     omega arith
 
@@ -67,7 +65,7 @@ numbers-cause [] n f r h = tt
 numbers-cause (x ∷ xs) n f r h =
     rw (ne_eqb f 1 (omega arith)) (go (read_number 1 largest_number x) refl (λ v. numbers-cause xs n (f + 1) (with_number r f v) (omega arith)))
   where
-    number : (v : ℕ) → read_number 1 largest_number x ≡ Is v → Number x
+    number : (v : ℕ) → read_number 1 largest_number x ≡ Some v → Number x
     number v e = let d = digits_number 1 largest_number x v e in (v, d.1, d.2, sym d.0)
 
     before : Number x → (k : ℕ) → ((z : ℕ) → z < k → Number (get_or xs z [])) → (z : ℕ) → z < suc k → Number (get_or (x ∷ xs) z [])
@@ -86,10 +84,10 @@ numbers-cause (x ∷ xs) n f r h =
           not-one = i.not-one;
         }
 
-    go : (m : Read) → read_number 1 largest_number x ≡ m → ((v : ℕ) → NumbersCause n (f + 1) xs (read_fields n (f + 1) (with_number r f v) xs))
+    go : (m : Maybe ℕ) → read_number 1 largest_number x ≡ m → ((v : ℕ) → NumbersCause n (f + 1) xs (read_fields n (f + 1) (with_number r f v) xs))
         → NumbersCause n f (x ∷ xs) (on_number m (λ v. read_fields n (f + 1) (with_number r f v) xs) (bad (BadNumber n f)))
-    go (Is v) e ih = more (number v e) (read_fields n (f + 1) (with_number r f v) xs) (ih v)
-    go No e ih =
+    go (Some v) e ih = more (number v e) (read_fields n (f + 1) (with_number r f v) xs) (ih v)
+    go None e ih =
         let k : f ≡ f + 0 = omega arith in
         record { left = 0; is = ap (BadNumber n) k; there = omega arith; before = λ z h. absurd (omega arith); not-one = λ a. number_read x a e }
 
@@ -247,13 +245,13 @@ lines-lack (x ∷ s) = go (eqb x line_feed) refl (lines s) (lines-lack s)
 -- number, line and field of an answer
 
 abbrev number : Answer → ℕ
-number a = number_of_outcome (reading_of a).outcome
+number a = number_of_outcome (reading_of a)
 
 abbrev line : Answer → ℕ
-line a = line_of_outcome (reading_of a).outcome
+line a = line_of_outcome (reading_of a)
 
 abbrev place : Answer → ℕ
-place a = field_of_outcome (reading_of a).outcome
+place a = field_of_outcome (reading_of a)
 
 -- an answer says: number x, line n, field y
 abbrev Says : Answer → ℕ → ℕ → ℕ → Type 0
@@ -318,9 +316,9 @@ number-refused zero (x ∷ xs) n f r h l g q =
     let k : f ≡ f + 0 = omega arith in
     bad-number n f r x xs (omega arith) (go (read_number 1 largest_number x) refl) ∙ ap (λ y. bad (BadNumber n y)) k
   where
-    go : (m : Read) → read_number 1 largest_number x ≡ m → read_number 1 largest_number x ≡ No
-    go (Is v) e = let d = digits_number 1 largest_number x v e in absurd (q (v, d.1, d.2, sym d.0))
-    go No e = e
+    go : (m : Maybe ℕ) → read_number 1 largest_number x ≡ m → read_number 1 largest_number x ≡ None
+    go (Some v) e = let d = digits_number 1 largest_number x v e in absurd (q (v, d.1, d.2, sym d.0))
+    go None e = e
 number-refused (suc i) (x ∷ xs) n f r h l g q =
     let a = g 0 (omega arith) in
     let k : f + 1 + i ≡ f + suc i = omega arith in

@@ -1,5 +1,5 @@
 -- What an answer about a row says of the question: the table is well-formed, and the row is there.
-use Rattle.std.specs.Prelude.{if◌then◌else◌}
+use Rattle.std.specs.Prelude.{Result, Ok, Err, if◌then◌else◌}
 use mathlib.Core.Path.{◌≡◌, refl, ◌∙◌}
 use mathlib.Core.Bool.{Bool, true, false}
 use Prim.Native.Nat.{ℕ, ◌-◌, ◌≤◌, ◌<◌}
@@ -9,13 +9,13 @@ use lib.ListN.{length}
 use borrow.Author.Tests.{leb-true, le-leb}
 use Rattle.words.specs.Choice.{◌and◌}
 use Rattle.words.proofs.Choice.{if-true, and_parts, and_both}
+use Rattle.refusals.specs.declared.Refusal.{Refusal}
 use Rattle.refusals.specs.declared.Refusal.TheVariants.{BadTable, NoSuchRow}
 use Rattle.table.specs.Paper.{row_at, right_row, right_table}
 use Rattle.table.specs.Value.{table_of, well_formed}
 use Rattle.table.specs.declared.Table.{Table as TableValue}
 use Rattle.table.proofs.Rules.{value-forth}
 use Rattle.figures.specs.declared.RowFigures.{RowFigures}
-use Rattle.figures.specs.declared.Answer.TheVariants.{Row as RowIs, Refused}
 use Rattle.figures.specs.Answers.{row_answer, figures_of}
 use Rattle.promises.specs.Demands.{Told}
 use Rattle.promises.proofs.Fits.{rules}
@@ -34,7 +34,7 @@ unfolding row_answer
 asked v n a = go (well_formed v) refl (leb 1 n and leb n (length (table_of v))) refl
   where
     go : (b : Bool) → well_formed v ≡ b → (c : Bool) → (leb 1 n and leb n (length (table_of v))) ≡ c
-        → (if b then (if c then RowIs (figures_of (row_at (table_of v)) (n - 1)) else Refused NoSuchRow) else Refused BadTable) ≡ RowIs a → Asked v n a
+        → ◌≡◌ {A = Result RowFigures Refusal} (if b then (if c then Ok (figures_of (row_at (table_of v)) (n - 1)) else Err NoSuchRow) else Err BadTable) (Ok a) → Asked v n a
     go true p true q e =
         record { good = p; first = leb-true 1 n (and_parts q).0; last = leb-true n (length (table_of v)) (and_parts q).1; is = cc }
     go true p false q e = never (cc)

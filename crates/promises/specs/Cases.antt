@@ -1,5 +1,5 @@
 -- The cases of document 01 that are marked P, 'Figures on both sides of the line': one list, one statement. Rows are counted from 1.
-use Rattle.std.specs.Prelude.{◌≡◌, refl, List, [], ◌∷◌, map, ℕ, ◌-◌}
+use Rattle.std.specs.Prelude.{Result, Ok, ◌≡◌, refl, List, [], ◌∷◌, map, ℕ, ◌-◌}
 use Rattle.std.proofs.Math.Option.{Option, none, some}
 use Prim.Native.String.{String}
 use Rattle.words.specs.Choice.{◌and◌, ◌or◌}
@@ -17,8 +17,8 @@ use Rattle.verdicts.specs.declared.Bound.TheVariants.{Whole, Split}
 use Rattle.verdicts.specs.declared.Verdict.{Verdict}
 use Rattle.verdicts.specs.declared.Verdict.TheVariants.{Fits, Misses, Open}
 use Rattle.verdicts.specs.Verdicts.{figure_of}
-use Rattle.figures.specs.declared.Answer.{Answer}
-use Rattle.figures.specs.declared.Answer.TheVariants.{Row as RowIs}
+use Rattle.figures.specs.declared.RowFigures.{RowFigures}
+use Rattle.refusals.specs.declared.Refusal.{Refusal}
 use Rattle.recurrence.specs.Figures.{ceiling, arrivals, sequence, right, result, own, split_from}
 use Rattle.figures.specs.Answers.{row_answer, verdicts, table_verdict}
 use Rattle.report.specs.Report.{row_line, last_line, report_text, answer_text}
@@ -34,7 +34,7 @@ pub data Question : Type 0 where
 
 -- what is answered: of a row the library's answer; whole without a deadline, and what split adds up to; number, line and field; bytes
 pub data Reply : Type 0 where
-  figures : Answer → Reply
+  figures : Result RowFigures Refusal → Reply
   bounds : Option ℕ → Option ℕ → Reply
   refusal : ℕ → ℕ → ℕ → Reply
   bytes : List ℕ → Reply
@@ -46,7 +46,7 @@ answer (beyond t n) =
     bounds (result (right (row_at t) (n - 1) (own (row_at t (n - 1)))) largest_number (own (row_at t (n - 1))))
     (split_from (row_at t) (n - 1) (parts (row_at t (n - 1)).times))
 answer (text s) =
-    refusal (number_of_outcome (reading (spelled s)).outcome) (line_of_outcome (reading (spelled s)).outcome) (field_of_outcome (reading (spelled s)).outcome)
+    refusal (number_of_outcome (reading (spelled s))) (line_of_outcome (reading (spelled s))) (field_of_outcome (reading (spelled s)))
 answer (report s) = bytes (answer_text (spelled s))
 
 -- a question and its answer
@@ -60,7 +60,7 @@ case q r = record { asked = q; expected = r }
 
 -- a row's verdict, whole, split and rounds
 abbrev pub told : Verdict → Option ℕ → Option ℕ → ℕ → Reply
-told verdict whole split rounds = figures (RowIs (record { verdict = verdict; whole = figure_of whole; split = figure_of split; rounds = rounds }))
+told verdict whole split rounds = figures (Ok (record { verdict = verdict; whole = figure_of whole; split = figure_of split; rounds = rounds }))
 
 -- Table A of document 01
 abbrev pub table_a : Table

@@ -13,11 +13,11 @@ use Rattle.promises.specs.Demands.{reading, text_number}
 
 -- the line of what a text reads as
 abbrev pub text_line : List ℕ → ℕ
-text_line s = line_of_outcome (reading s).outcome
+text_line s = line_of_outcome (reading s)
 
 -- its field
 abbrev pub text_field : List ℕ → ℕ
-text_field s = field_of_outcome (reading s).outcome
+text_field s = field_of_outcome (reading s)
 
 -- field y of a line, from 1
 abbrev pub field : List ℕ → ℕ → List ℕ

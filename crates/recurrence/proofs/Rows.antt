@@ -1,12 +1,12 @@
 -- What a right row has: the rules of document 01 that the figures rest on, one by one.
 use mathlib.Core.Path.{◌≡◌, refl}
 use mathlib.Core.Bool.{true, false}
-use mathlib.Core.List.{List, [], ◌∷◌}
-use Prim.Native.Nat.{ℕ, zero, suc, ◌+◌, ◌%◌, ◌≤◌, ◌<◌}
+use mathlib.Core.List.{List, [], ◌∷◌, ◌++◌}
+use Prim.Native.Nat.{ℕ, zero, suc, ◌+◌, ◌-◌, ◌%◌, ◌≤◌, ◌<◌}
 use native.Mathlib.Omega.{arith}
-use lib.ListN.{length, drop, get_or, drop_of_length-le}
+use lib.ListN.{length, drop, get_or, replicate, drop_of_length-le}
 use borrow.Author.Tests.{eqb-true, ltb-true, ltb-false}
-use Rattle.words.specs.Lists.{sum, all}
+use Rattle.words.specs.Lists.{sum, all, padded}
 use Rattle.words.proofs.Choice.{and_parts}
 use Rattle.table.specs.Paper.{Row, Part, part, behind, parts, work, total, right_number, right_count, right_row, waits}
 use Rattle.table.proofs.Rules.{number-range, row-period, row_count, row-times, row-order, row-sum}
@@ -34,14 +34,27 @@ work-behind [] = refl
 work-behind (s ∷ []) = refl
 work-behind (s ∷ c ∷ l) = refl
 
--- all C from a stretch on: its own, and those from the next one on
-pub work-at : (times : List ℕ) (j : ℕ) → j < length times → work (parts (drop j times)) ≡ get_or times j 0 + work (parts (drop (j + 2) times))
-work-at [] j h = absurd (omega arith)
-work-at (c ∷ l) zero h = omega (arith, work-behind l)
-work-at (c ∷ l) (suc j) h = let e : suc j + 2 ≡ suc (j + 2) = omega arith in rw e (work-at l j (omega arith))
-
 pub work-end : (times : List ℕ) (j : ℕ) → length times ≤ j → work (parts (drop j times)) ≡ 0
 work-end times j h = rw (drop_of_length-le times h) refl
+
+-- all C from a stretch on: its own, and those from the next one on
+pub work-at : (times : List ℕ) (j : ℕ) → work (parts (drop j times)) ≡ get_or times j 0 + work (parts (drop (j + 2) times))
+work-at [] j = omega (arith, work-end [] j (omega arith), work-end [] (j + 2) (omega arith))
+work-at (c ∷ l) zero = omega (arith, work-behind l)
+work-at (c ∷ l) (suc j) = let e : suc j + 2 ≡ suc (j + 2) = omega arith in rw e (work-at l j)
+
+behind-zeros : (l : List ℕ) (n : ℕ) → length l % 2 ≡ 0 → work (behind (l ++ replicate n 0)) ≡ work (behind l)
+behind-zeros [] zero e = refl
+behind-zeros [] (suc zero) e = refl
+behind-zeros [] (suc (suc n)) e = omega (arith, behind-zeros [] n e)
+behind-zeros (s ∷ []) n e = absurd (omega arith)
+behind-zeros (s ∷ c ∷ l) n e = omega (arith, behind-zeros l n (omega arith))
+
+-- zeros behind the times add no C
+pub work-padded : (times : List ℕ) (n : ℕ) → length times % 2 ≡ 1 → work (parts (padded n times)) ≡ work (parts times)
+unfolding padded
+work-padded [] n e = absurd (omega arith)
+work-padded (c ∷ l) n e = omega (arith, behind-zeros l (n - length (c ∷ l)) (omega arith))
 
 -- what the figures need of a row
 pub record Sane (r : Row) : Type 0 where

@@ -8,6 +8,7 @@ use native.Mathlib.Decide.{dec_le}
 use lib.ListN.{length, take, drop, length-drop}
 use lib.Seq.{length-take-le, take_all}
 use borrow.Author.Tests.{lt-ltb, le-ltb}
+use Rattle.std.specs.Prelude.{Result, Ok, Err}
 use Rattle.words.specs.Buffer.{over, placed}
 use Rattle.words.proofs.Buffer.{over-nil, length_over, placed-fits}
 use Rattle.words.proofs.Choice.{if-true, if-false}
@@ -15,10 +16,7 @@ use Rattle.refusals.specs.declared.Refusal.{Refusal}
 use Rattle.refusals.specs.declared.Refusal.TheVariants.{ManyTicks}
 use Rattle.table.specs.Limits.{longest_text, most_ticks}
 use Rattle.table.specs.Value.{table_of, well_formed}
-use Rattle.text.specs.declared.Written.{Written}
-use Rattle.text.specs.declared.Written.TheVariants.{Bytes, Refused}
-use Rattle.text.specs.declared.Outcome.TheVariants.{Accepted, Refused as RefusedText}
-use Rattle.text.specs.declared.Reading.{Reading}
+use Rattle.table.specs.declared.Table.{Table as TableValue}
 use Rattle.text.specs.Read.{Answer, accepted, refused, read_text, reading_of}
 use Rattle.text.specs.Write.{table_text, length_in}
 use Rattle.text.proofs.Back.{text-right, reading-accepted, reading-refused}
@@ -39,43 +37,43 @@ replied bs d x n h p =
 
 -- where there is room, all was put there
 
-module _ (bs d x : List ℕ) (w : Written) (room : length bs ≤ length d) (e : w ≡ length_in bs d) (p : x ≡ placed bs d) where
-  pub put_whole : (n : ℕ) → w ≡ Bytes n → (n ≡ length bs) × (x ≡ over bs d)
+module _ (bs d x : List ℕ) (w : Result ℕ Refusal) (room : length bs ≤ length d) (e : w ≡ length_in bs d) (p : x ≡ placed bs d) where
+  pub put_whole : (n : ℕ) → w ≡ Ok n → (n ≡ length bs) × (x ≡ over bs d)
   put_whole n b = (bytes_same _ _ (sym b ∙ e ∙ length_whole bs d room), p ∙ placed-fits bs d room)
 
-  pub put-never-refused : (why : Refusal) → w ≡ Refused why → ⊥
+  pub put-never-refused : (why : Refusal) → w ≡ Err why → ⊥
   put-never-refused why b = refused_none _ _ (sym b ∙ e ∙ length_whole bs d room)
 
 -- the run of a text in a buffer that has room for every answer
 
-module _ (s : List ℕ) (n : ℕ) (d x : List ℕ) (w : Written) (room : length d ≡ longest_text)
+module _ (s : List ℕ) (n : ℕ) (d x : List ℕ) (w : Result ℕ Refusal) (room : length d ≡ longest_text)
     (e : w ≡ ran_in (read_text s) n d) (p : x ≡ ran_into (read_text s) n d) where
   -- the run was put there
-  pub ran-bytes : (m : ℕ) → w ≡ Bytes m → (m ≡ length (run_answer s n)) × (x ≡ over (run_answer s n) d)
+  pub ran-bytes : (m : ℕ) → w ≡ Ok m → (m ≡ length (run_answer s n)) × (x ≡ over (run_answer s n) d)
   unfolding run_answer
   ran-bytes m b = go (read_text s) refl (sym b ∙ e) p (dec_le n most_ticks)
     where
-      go : (a : Answer) → read_text s ≡ a → Bytes m ≡ ran_in a n d → x ≡ ran_into a n d → Dec (n ≤ most_ticks) → (m ≡ length (run_to a n)) × (x ≡ over (run_to a n) d)
+      go : (a : Answer) → read_text s ≡ a → Ok m ≡ ran_in a n d → x ≡ ran_into a n d → Dec (n ≤ most_ticks) → (m ≡ length (run_to a n)) × (x ≡ over (run_to a n) d)
       go (accepted t) r f q (yes h) =
           let l = le-ltb most_ticks n h in
           let k : length (run_text t n) ≤ length d = omega (arith, room, run_fits t n (text-right s t r) h) in
-          rw l (put_whole (run_text t n) d x (Bytes m) k (f ∙ if-false _ _ l) (q ∙ if-false _ _ l) m refl)
+          rw l (put_whole (run_text t n) d x (Ok m) k (f ∙ if-false _ _ l) (q ∙ if-false _ _ l) m refl)
       go (accepted t) r f q (no h) = absurd (refused_none _ _ (sym (f ∙ if-true _ _ (lt-ltb most_ticks n (omega arith)))))
       go (refused y) r f q c = absurd (refused_none _ _ (sym f))
 
   -- or it was refused, and the line of that refusal is the answer
-  pub ran-refused : (why : Refusal) → w ≡ Refused why → (refused_line why ≡ run_answer s n) × (x ≡ d)
+  pub ran-refused : (why : Refusal) → w ≡ Err why → (refused_line why ≡ run_answer s n) × (x ≡ d)
   unfolding run_answer
   ran-refused why b = go (read_text s) refl (sym b ∙ e) p (dec_le n most_ticks)
     where
-      go : (a : Answer) → read_text s ≡ a → Refused why ≡ ran_in a n d → x ≡ ran_into a n d → Dec (n ≤ most_ticks) → (refused_line why ≡ run_to a n) × (x ≡ d)
+      go : (a : Answer) → read_text s ≡ a → Err why ≡ ran_in a n d → x ≡ ran_into a n d → Dec (n ≤ most_ticks) → (refused_line why ≡ run_to a n) × (x ≡ d)
       go (accepted t) r f q (yes h) =
           let l = le-ltb most_ticks n h in
           let k : length (run_text t n) ≤ length d = omega (arith, room, run_fits t n (text-right s t r) h) in
-          absurd (put-never-refused (run_text t n) d x (Refused why) k (f ∙ if-false _ _ l) (q ∙ if-false _ _ l) why refl)
+          absurd (put-never-refused (run_text t n) d x (Err why) k (f ∙ if-false _ _ l) (q ∙ if-false _ _ l) why refl)
       go (accepted t) r f q (no h) =
           let l = lt-ltb most_ticks n (omega arith) in
-          let z : Refused why ≡ Refused ManyTicks = f ∙ if-true _ _ l in
+          let z : ◌≡◌ {A = Result ℕ Refusal} (Err why) (Err ManyTicks) = f ∙ if-true _ _ l in
           let y : why ≡ ManyTicks = cc in
           (ap refused_line y ∙ sym (if-true _ _ l), q ∙ if-true _ _ l)
       go (refused y) r f q c =
@@ -84,16 +82,16 @@ module _ (s : List ℕ) (n : ℕ) (d x : List ℕ) (w : Written) (room : length 
 
 -- the text again
 
-pub text-accepted : (s : List ℕ) (r : Reading) → r ≡ reading_of (read_text s) → r.outcome ≡ Accepted
-    → (well_formed r.table ≡ true) × (text_answer s ≡ table_text (table_of r.table))
+pub text-accepted : (s : List ℕ) (v : TableValue) → Ok v ≡ reading_of (read_text s)
+    → (well_formed v ≡ true) × (text_answer s ≡ table_text (table_of v))
 unfolding text_answer
-text-accepted s r e o =
-    let a = reading-accepted s r e o in
+text-accepted s v e =
+    let a = reading-accepted s v e in
     (a.0, ap text_to a.1)
 
-pub text-refused : (s : List ℕ) (r : Reading) (x : Refusal) → r ≡ reading_of (read_text s) → r.outcome ≡ RefusedText x → text_answer s ≡ refused_line x
+pub text-refused : (s : List ℕ) (x : Refusal) → Err x ≡ reading_of (read_text s) → text_answer s ≡ refused_line x
 unfolding text_answer
-text-refused s r x e o = ap text_to (reading-refused s r x e o)
+text-refused s x e = ap text_to (reading-refused s x e)
 
 -- an item of ticks and a text
 

@@ -11,10 +11,12 @@ ghost use Rattle.replies.specs.Replies.{run_answer, text_answer, ticks_in, item_
 
 use refusals::Refusal;
 use table::Table;
-use text::{Outcome, Written};
 
 // The most bytes of an answer: no report and no run is as long as a text may be.
 pub const LONGEST: usize = Table::TEXT;
+
+// The most bytes that a program reads of a text: one more than a text may have, so that a text that is too long can be told.
+pub const INPUT: usize = Table::TEXT + 1;
 
 // The bytes of an item before its text, where it has a number of ticks.
 const TICKS: usize = 4;
@@ -36,8 +38,8 @@ fn line_of(why: Refusal, out: &mut [u8]) -> usize
     ensures { (result ≡ length (refused_line why)) × (out.new ≡ over (refused_line why) out.old) }
 {
     match refused::write(why, out) {
-        Written::Bytes(len) => len,
-        Written::Refused(_) => 0,
+        Ok(len) => len,
+        Err(_) => 0,
     }
 }
 
@@ -47,8 +49,8 @@ fn table_text(table: Table, out: &mut [u8]) -> usize
     ensures { (result ≡ length (table_text (table_of table))) × (out.new ≡ over (table_text (table_of table)) out.old) }
 {
     match text::write(table, out) {
-        Written::Bytes(len) => len,
-        Written::Refused(_) => 0,
+        Ok(len) => len,
+        Err(_) => 0,
     }
 }
 
@@ -58,8 +60,8 @@ pub fn report_of(text: &[u8], out: &mut [u8; LONGEST]) -> usize
     ensures front { Front result out.new }
 {
     match report::answer(text, out) {
-        Written::Bytes(report_len) => report_len,
-        Written::Refused(_) => 0,
+        Ok(report_len) => report_len,
+        Err(_) => 0,
     }
 }
 
@@ -69,8 +71,8 @@ pub fn run_of(text: &[u8], ticks: u64, out: &mut [u8; LONGEST]) -> usize
     ensures front { Front result out.new }
 {
     match runs::answer(text, ticks, out) {
-        Written::Bytes(run_len) => run_len,
-        Written::Refused(why) => line_of(why, out),
+        Ok(run_len) => run_len,
+        Err(why) => line_of(why, out),
     }
 }
 
@@ -79,18 +81,10 @@ pub fn text_of(text: &[u8], out: &mut [u8; LONGEST]) -> usize
     ensures value { (result ≡ length (text_answer text.now)) × (out.new ≡ over (text_answer text.now) out.old) }
     ensures front { Front result out.new }
 {
-    let reading = text::read(text);
-    let outcome = reading.outcome;
-    match outcome {
-        Outcome::Accepted => table_text(reading.table, out),
-        Outcome::Refused(why) => line_of(why, out),
+    match text::read(text) {
+        Ok(table) => table_text(table, out),
+        Err(refusal) => line_of(refusal, out),
     }
-}
-
-fn wide(byte: u8) -> u64
-    ensures { (result ≡ byte) × (result < 256) }
-{
-    byte as u64
 }
 
 // The number of ticks at the front of an item.
@@ -98,7 +92,7 @@ fn ticks_of(item: &[u8]) -> u64
     requires { 4 ≤ length item.now }
     ensures { result ≡ ticks_in item.now }
 {
-    ((wide(item[0]) * 256 + wide(item[1])) * 256 + wide(item[2])) * 256 + wide(item[3])
+    u64::from(u32::from_be_bytes([item[0], item[1], item[2], item[3]]))
 }
 
 // The full run of an item of ticks and a text; nothing where the item has no room for the ticks.

@@ -26,7 +26,7 @@ use Rattle.verdicts.specs.declared.Bound.{Bound}
 use Rattle.verdicts.specs.declared.Verdict.{Verdict}
 use Rattle.verdicts.specs.declared.Verdict.TheVariants.{Fits, Misses, Open}
 use Rattle.verdicts.specs.declared.TableVerdict.{TableVerdict}
-use Rattle.verdicts.specs.declared.TableVerdict.TheVariants.{Fits as TableFits, Misses as TableMisses, Open as TableOpen, Refused as TableRefused}
+use Rattle.verdicts.specs.declared.TableVerdict.TheVariants.{Fits as TableFits, Misses as TableMisses, Open as TableOpen}
 use Rattle.recurrence.specs.Figures.{whole, split, verdict, row_rounds}
 use Rattle.figures.specs.Answers.{split_shown, figures_of, table_verdict}
 use Rattle.verdicts.specs.Verdicts.{figure_of}
@@ -81,7 +81,6 @@ table-short : (v : TableVerdict) → length (table_word v) ≤ longest_word
 table-short TableFits = omega arith
 table-short TableMisses = omega arith
 table-short TableOpen = omega arith
-table-short (TableRefused why) = omega arith
 
 -- a figure up to that number is short, and so is the hyphen of a missing one
 figure-short : (o : Option ℕ) → ((n : ℕ) → o ≡ some n → n ≤ most_rounds) → length (figure_text (figure_of o)) ≤ most_digits

@@ -1,16 +1,20 @@
 -- The report of a table value: its lines and its last line, as the code has them, are the report on paper.
-use mathlib.Core.Path.{◌≡◌, sym, ap, ◌∙◌}
-use mathlib.Core.Bool.{true, false}
-use mathlib.Core.List.{List, ◌++◌, map}
-use Prim.Native.Nat.{ℕ, ◌+◌, ◌≤◌, ◌<◌}
+use mathlib.Core.Path.{◌≡◌, refl, sym, ap, ◌∙◌}
+use mathlib.Core.Bool.{Bool, true, false}
+use mathlib.Core.List.{List, [], ◌∷◌, ◌++◌, map}
+use Prim.Native.Nat.{ℕ, ◌<◌, min}
 use native.Mathlib.Omega.{arith}
-use lib.ListN.{length, get_or, length-append}
+use lib.ListN.{length, get_or}
+use Rattle.std.specs.Prelude.{None, Result, Ok, Err}
 use Rattle.words.specs.Lists.{below}
 use Rattle.words.specs.Buffer.{placed}
-use Rattle.words.proofs.Choice.{if-true}
+use Rattle.words.proofs.Choice.{if-true, if-false}
 use Rattle.words.proofs.Lists.{get_d_any}
 use Rattle.words.proofs.Filled.{below-same, filled_at}
 use Rattle.fields.specs.Fields.{joined}
+use Rattle.fields.proofs.Lines.{joined-append}
+use Rattle.lines.proofs.Laws.{joined-one}
+use Rattle.report.specs.declared.Report.{Report}
 use Rattle.refusals.specs.declared.Refusal.{Refusal}
 use Rattle.refusals.specs.declared.Refusal.TheVariants.{BadTable}
 use Rattle.table.specs.Limits.{most_rows}
@@ -18,38 +22,32 @@ use Rattle.table.specs.Paper.{Row, Table, row_at}
 use Rattle.table.specs.Value.{no_value, row_of, table_of, well_formed}
 use Rattle.table.specs.declared.Row.{Row as RowValue}
 use Rattle.table.specs.declared.Table.{Table as TableValue}
-use Rattle.figures.specs.declared.Answer.TheVariants.{Row as RowIs}
-use Rattle.table.proofs.Rules.{value-forth}
-use Rattle.text.specs.declared.Written.TheVariants.{Refused}
-use Rattle.text.specs.declared.Outcome.TheVariants.{Accepted, Refused as RefusedText}
-use Rattle.text.specs.declared.Reading.{Reading}
 use Rattle.text.specs.Read.{read_text, reading_of}
 use Rattle.text.specs.Write.{length_in}
 use Rattle.text.proofs.Back.{reading-accepted, reading-refused}
 use Rattle.ticks.specs.Ticks.{long}
 use Rattle.verdicts.specs.declared.Bound.TheVariants.{Whole}
-use Rattle.verdicts.specs.declared.Figure.TheVariants.{Is}
 use Rattle.verdicts.specs.declared.Verdict.TheVariants.{Fits}
-use Rattle.figures.specs.declared.Slot.{Slot}
+use Rattle.figures.specs.declared.RowFigures.{RowFigures}
 use Rattle.figures.specs.declared.TableFigures.{TableFigures}
-use Rattle.figures.specs.Answers.{figures_of, table_verdict, slot_of, slots, table_figures}
+use Rattle.figures.specs.Answers.{figures_of, table_verdict, answers, table_figures}
 use Rattle.table.proofs.Used.{row_is, len_is, len-most}
 use Rattle.refused.specs.Refused.{refused_line}
-use Rattle.report.specs.Report.{row_line, last_line, report_text, answer_to, answer_text, reported, reported_into, longest_report}
-use Rattle.report.specs.Parts.{no_slot, answer_line, line_at, lines_text}
-use Rattle.report.proofs.Fits.{report-fits}
+use Rattle.report.specs.Report.{row_line, last_line, report_text, answer_to, answer_text, reported, reported_into}
+use Rattle.report.specs.Parts.{no_answer, answer_line, lines_text, said_line, report_lines}
+
+-- the line of row k, as the code has it
+abbrev pub said_at : Report → ℕ → List ℕ
+said_at r k = said_line (get_or r.table.rows k no_value) (get_or r.figures.rows k no_answer)
 
 -- what the language says to stand behind the end of an array of answers
-abbrev pub behind : Slot
-behind = slot_of (RowIs (record { verdict = Fits Whole (long 0); whole = Is (long 0); split = Is (long 0); rounds = 0 }))
-
--- the line of row k, as the code reads it
-abbrev pub read_at : List RowValue → List Slot → ℕ → List ℕ
-read_at rows slots k = answer_line (row_of (get_or rows k no_value)) (get_or slots k behind).answer
+abbrev pub behind : Result RowFigures Refusal
+behind = Ok (record { verdict = Fits Whole (long 0); whole = None; split = None; rounds = 0 })
 
 -- within the array it makes no difference what stands behind its end
-pub line_read : (rows : List RowValue) (slots : List Slot) (k : ℕ) → k < length slots → read_at rows slots k ≡ line_at rows slots k
-line_read rows slots k h = ap (λ (s : Slot). answer_line (row_of (get_or rows k no_value)) s.answer) (get_d_any slots k behind no_slot h)
+pub said_is : (r : Report) (k : ℕ) (a : Result RowFigures Refusal) → k < length r.figures.rows → get_or r.figures.rows k behind ≡ a
+    → said_line (get_or r.table.rows k no_value) a ≡ said_at r k
+said_is r k a h e = ap (said_line (get_or r.table.rows k no_value)) (sym e ∙ get_d_any r.figures.rows k behind no_answer h)
 
 module _ (v : TableValue) (ok : well_formed v ≡ true) where
   abbrev t : Table
@@ -59,40 +57,53 @@ module _ (v : TableValue) (ok : well_formed v ≡ true) where
   abbrev paper_line : ℕ → List ℕ
   paper_line k = row_line (row_at t k) (figures_of (row_at t) k)
 
-  line-is : (k : ℕ) → k < v.len → line_at v.rows (slots t) k ≡ paper_line k
-  unfolding slots
-  line-is k h =
-      ap (λ (r : Row). answer_line r (get_or (slots t) k no_slot).answer) (row_is v ok k)
-      ∙ ap (λ (s : Slot). answer_line (row_at t k) s.answer) (filled_at (λ i. slot_of (RowIs (figures_of (row_at t) i))) (length t) _ no_slot k (omega (arith, len_is v ok)))
+  -- whatever says of each row's figures what its line on paper says, says of all rows what the report on paper does
+  module _ (says : RowValue → Result RowFigures Refusal → List ℕ) (same : (w : RowValue) (f : RowFigures) → says w (Ok f) ≡ row_line (row_of w) f) where
+    line-is : (k : ℕ) → k < v.len → says (get_or v.rows k no_value) (get_or (answers t) k no_answer) ≡ paper_line k
+    unfolding answers
+    line-is k h =
+        ap (says (get_or v.rows k no_value)) (filled_at (λ i. Ok (figures_of (row_at t) i)) (length t) _ no_answer k (omega (arith, len_is v ok)))
+        ∙ same (get_or v.rows k no_value) (figures_of (row_at t) k) ∙ ap (λ (r : Row). row_line r (figures_of (row_at t) k)) (row_is v ok k)
 
-  lines_are : lines_text v.rows (slots t) v.len ≡ joined (map paper_line (below (length t)))
-  lines_are = ap joined (below-same (line_at v.rows (slots t)) paper_line v.len line-is) ∙ ap (λ n. joined (map paper_line (below n))) (len_is v ok)
+    lines_are : joined (map (λ k. says (get_or v.rows k no_value) (get_or (answers t) k no_answer)) (below v.len)) ≡ joined (map paper_line (below (length t)))
+    lines_are = ap joined (below-same _ paper_line v.len line-is) ∙ ap (λ n. joined (map paper_line (below n))) (len_is v ok)
 
-  figures-are : table_figures v ≡ record { verdict = table_verdict t; rows = slots t }
+  figures-are : table_figures v ≡ Ok (record { verdict = table_verdict t; rows = answers t })
   unfolding table_figures
   figures-are = if-true _ _ ok
 
+  -- what the library's figures are
+  figures-in : (f : TableFigures) → Ok f ≡ table_figures v → f ≡ record { verdict = table_verdict t; rows = answers t }
+  figures-in f e = let q : ◌≡◌ {A = Result TableFigures Refusal} (Ok f) (Ok (record { verdict = table_verdict t; rows = answers t })) = e ∙ figures-are in cc
+
+  -- a right table is not refused
+  pub figures-some : (why : Refusal) → Err why ≡ table_figures v → ⊥
+  figures-some why e = let q : ◌≡◌ {A = Result TableFigures Refusal} (Err why) (Ok (record { verdict = table_verdict t; rows = answers t })) = e ∙ figures-are in cc
+
   -- the lines of the rows, and the last line
-  pub report-parts : (f : TableFigures) → f ≡ table_figures v → report_text t ≡ lines_text v.rows f.rows v.len ++ last_line f.verdict
+  pub report-parts : (f : TableFigures) → Ok f ≡ table_figures v → report_text t ≡ lines_text v.rows f.rows v.len ++ last_line f.verdict
   unfolding report_text
   report-parts f e =
       sym
-      (ap (λ (g : TableFigures). lines_text v.rows g.rows v.len ++ last_line g.verdict) (e ∙ figures-are)
-      ∙ ap (λ (l : List ℕ). l ++ last_line (table_verdict t)) lines_are)
+      (ap (λ (g : TableFigures). lines_text v.rows g.rows v.len ++ last_line g.verdict) (figures-in f e)
+      ∙ ap (λ (l : List ℕ). l ++ last_line (table_verdict t)) (lines_are (λ w. answer_line (row_of w)) (λ w g. refl)))
 
-  -- their lengths, which stay within the limit
-  pub report-lengths : (f : TableFigures) → f ≡ table_figures v → length (report_text t) ≡ length (lines_text v.rows f.rows v.len) + length (last_line f.verdict)
-  report-lengths f e = ap length (report-parts f e) ∙ length-append (lines_text v.rows f.rows v.len) (last_line f.verdict)
-
-  pub report-short : length (report_text t) ≤ longest_report
-  report-short = report-fits t (value-forth v ok).1
-
-  pub rows_few : v.len ≤ most_rows
-  rows_few = len-most v ok
+  -- the same, as the lines that the code has
+  pub report-lines : (f : TableFigures) → Ok f ≡ table_figures v → joined (report_lines (record { table = v; figures = f })) ≡ report_text t
+  unfolding report_text
+  report-lines f e =
+      let n : min v.len most_rows ≡ v.len = omega (arith, len-most v ok) in
+      let says : ℕ → List ℕ = λ k. said_line (get_or v.rows k no_value) (get_or (answers t) k no_answer) in
+      let last = last_line (table_verdict t) in
+      ap (λ (g : TableFigures). joined (report_lines (record { table = v; figures = g }))) (figures-in f e)
+      ∙ joined-append (map says (below (min v.len most_rows))) (last ∷ [])
+      ∙ ap (λ m. joined (map says (below m)) ++ joined (last ∷ [])) n
+      ∙ ap (λ (l : List ℕ). l ++ joined (last ∷ [])) (lines_are said_line (λ w g. refl))
+      ∙ ap (λ (l : List ℕ). joined (map paper_line (below (length t))) ++ l) (joined-one last)
 
 -- the answers of writing
 
-pub reported-bad : (v : TableValue) (d : List ℕ) → well_formed v ≡ false → (reported v d ≡ Refused BadTable) × (reported_into v d ≡ d)
+pub reported-bad : (v : TableValue) (d : List ℕ) → well_formed v ≡ false → (reported v d ≡ Err BadTable) × (reported_into v d ≡ d)
 unfolding reported reported_into
 reported-bad v d e = (rw e, rw e)
 
@@ -101,17 +112,38 @@ pub reported-right : (v : TableValue) (d : List ℕ) → well_formed v ≡ true
 unfolding reported reported_into
 reported-right v d e = (if-true _ _ e, if-true _ _ e)
 
+-- the answer follows the figures: they are there where the table is right, and it is refused as they are
+pub figures-right : (v : TableValue) (f : TableFigures) → Ok f ≡ table_figures v → well_formed v ≡ true
+unfolding table_figures
+figures-right v f e = go (well_formed v) refl
+  where
+    go : (b : Bool) → well_formed v ≡ b → well_formed v ≡ true
+    go true p = p
+    go false p = let q : ◌≡◌ {A = Result TableFigures Refusal} (Ok f) (Err BadTable) = e ∙ if-false _ _ p in cc
+
+pub reported-refused : (v : TableValue) (why : Refusal) (d : List ℕ) → Err why ≡ table_figures v → (reported v d ≡ Err why) × (reported_into v d ≡ d)
+unfolding table_figures
+reported-refused v why d e = go (well_formed v) refl
+  where
+    go : (b : Bool) → well_formed v ≡ b → (reported v d ≡ Err why) × (reported_into v d ≡ d)
+    go true p = absurd (figures-some v p why e)
+    go false p =
+        let q : ◌≡◌ {A = Result TableFigures Refusal} (Err why) (Err BadTable) = e ∙ if-false _ _ p in
+        let w : BadTable ≡ why = cc in
+        let r = reported-bad v d p in
+        (r.0 ∙ ap Err w, r.1)
+
 -- what was read is answered
 
--- the outcome of a reading that was accepted, and its table
-pub read-accepted : (s : List ℕ) (r : Reading) → r ≡ reading_of (read_text s) → r.outcome ≡ Accepted
-    → (well_formed r.table ≡ true) × (answer_text s ≡ report_text (table_of r.table))
+-- a reading that was accepted
+pub read-accepted : (s : List ℕ) (v : TableValue) → Ok v ≡ reading_of (read_text s)
+    → (well_formed v ≡ true) × (answer_text s ≡ report_text (table_of v))
 unfolding answer_text
-read-accepted s r e o =
-    let a = reading-accepted s r e o in
+read-accepted s v e =
+    let a = reading-accepted s v e in
     (a.0, ap answer_to a.1)
 
--- and of one that was refused
-pub read-refused : (s : List ℕ) (r : Reading) (x : Refusal) → r ≡ reading_of (read_text s) → r.outcome ≡ RefusedText x → answer_text s ≡ refused_line x
+-- and one that was refused
+pub read-refused : (s : List ℕ) (x : Refusal) → Err x ≡ reading_of (read_text s) → answer_text s ≡ refused_line x
 unfolding answer_text
-read-refused s r x e o = ap answer_to (reading-refused s r x e o)
+read-refused s x e = ap answer_to (reading-refused s x e)

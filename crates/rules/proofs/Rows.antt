@@ -1,13 +1,13 @@
 -- The tests of a row, and of rows one after the other, as the code joins them.
-use mathlib.Core.Path.{◌≡◌, refl, ap, ◌∙◌}
-use mathlib.Core.Bool.{Bool, true, false, not}
-use mathlib.Core.List.{List, ◌++◌, map}
+use mathlib.Core.Path.{◌≡◌, refl, sym, ap, ◌∙◌}
+use mathlib.Core.Bool.{Bool, true, false, not, ◌&&◌}
+use mathlib.Core.List.{List, [], ◌∷◌, ◌++◌, map}
 use Prim.Native.Nat.{ℕ, ◌+◌, ◌-◌, ◌≤◌, ◌<◌}
 use native.Mathlib.Omega.{arith}
 use lib.Dec.{ltb, leb}
 use native.Mathlib.Numerals.{add-one}
-use lib.ListN.{length, get_or, take, drop, length-drop}
-use lib.Seq.{take_all, take-suc}
+use lib.ListN.{length, get_or, take, drop, length-drop, drop_of_length-le}
+use lib.Seq.{take_all, take-suc, drop-cons}
 use Rattle.words.specs.Choice.{◌and◌}
 use Rattle.words.specs.Lists.{is_zero, all, any, sum, up_to}
 use Rattle.words.proofs.Lists.{up_to-rest, zeros-are, sum-append, sum_zeros, any_last}
@@ -16,9 +16,12 @@ use Rattle.table.specs.declared.Row.{Row as RowValue}
 use Rattle.table.specs.Limits.{longest_name}
 use Rattle.table.specs.Paper.{right_name, right_number, right_count, right_row}
 use Rattle.table.specs.Value.{no_value, row_of, name_in}
+use Rattle.std.specs.List.{list_all}
+use Rattle.std.proofs.lemmas.List.{take-map, drop-map}
 use Rattle.ticks.specs.Ticks.{ticks}
+use Rattle.ticks.specs.declared.Length.{Length}
 use Rattle.rules.specs.Tests.{ended, right_value, waits_value, rows_test}
-use Rattle.table.proofs.Rows.{times-front, used-row, used-end}
+use Rattle.table.proofs.Rows.{times-front}
 
 pub name_back : (v : RowValue) (n : ℕ) → length v.name ≡ longest_name → n ≡ length (row_of v).name
     → all is_zero (take (longest_name - n) (drop n v.name)) ≡ ended v.name
@@ -26,6 +29,26 @@ unfolding ended
 name_back v n l e =
     let k : length (drop n v.name) ≤ longest_name - n = simp length-drop (omega arith) in
     rw (take_all (longest_name - n) (drop n v.name) k, e)
+
+-- a test of times, in the library's word and in ours
+pub all-times : (test : ℕ → Bool) (ts : List Length) → list_all (λ time. test time.0) ts ≡ all test (map ticks ts)
+unfolding all ◌and◌
+all-times test [] = refl
+all-times test (t ∷ ts) = go (test t.0) (all-times test ts)
+  where
+    go : (b : Bool) → list_all (λ time. test time.0) ts ≡ all test (map ticks ts) → (b && list_all (λ time. test time.0) ts) ≡ (b and all test (map ticks ts))
+    go true e = e
+    go false e = refl
+
+-- the same of the first n times, and of those behind them
+pub times-first : (test : ℕ → Bool) (ts : List Length) (n : ℕ) → list_all (λ time. test time.0) (take n ts) ≡ all test (take n (map ticks ts))
+times-first test ts n = all-times test (take n ts) ∙ ap (all test) (sym (take-map ticks n ts))
+
+pub times-rest : (test : ℕ → Bool) (ts : List Length) (n size : ℕ) → length ts ≡ size
+    → list_all (λ time. test time.0) (take (size - n) (drop n ts)) ≡ all test (drop n (map ticks ts))
+times-rest test ts n size l =
+    let k : length (drop n ts) ≤ size - n = simp length-drop (omega arith) in
+    ap (list_all (λ time. test time.0)) (take_all (size - n) (drop n ts) k) ∙ all-times test (drop n ts) ∙ ap (all test) (sym (drop-map ticks n ts))
 
 -- where nothing stands behind the first zero, all times add up to those in use
 sum-ended : (xs : List ℕ) → ended xs ≡ true → sum xs ≡ sum (up_to 0 xs)
@@ -64,17 +87,16 @@ row-tests v n k {times = times₀} {f = f₀} {g = g₀} long-is a each-is b cou
         f ∙ rw (front-is, e, number₁-is, d, number₂-is, c, count-is, k, b, each-is, l, a, short)
 
 -- the tests of the rows from i on
-pub rows-test-at : (rows : List RowValue) (n i : ℕ) → i < n → n ≤ length rows
-    → rows_test (take i rows) (drop i (take n rows))
+pub rows-test-at : (rows : List RowValue) (i : ℕ) → i < length rows
+    → rows_test (take i rows) (drop i rows)
     ≡ (not (any waits_value (take i rows)) and right_value (get_or rows i no_value) and not (name_in (get_or rows i no_value).name (take i rows))
-    and rows_test (take (i + 1) rows) (drop (i + 1) (take n rows)))
+    and rows_test (take (i + 1) rows) (drop (i + 1) rows))
 unfolding rows_test
-rows-test-at rows n i h k =
-    rw (add-one, take-suc rows i no_value (omega arith)) (rw add-one at (ap (rows_test (take i rows)) (used-row rows n i h (omega arith))))
+rows-test-at rows i h = rw (add-one, take-suc rows i no_value h) (ap (rows_test (take i rows)) (drop-cons rows i no_value h))
 
-pub rows-test-end : (rows above : List RowValue) (n i : ℕ) → n ≤ i → n ≤ length rows → rows_test above (drop i (take n rows)) ≡ true
+pub rows-test-end : (rows above : List RowValue) (i : ℕ) → length rows ≤ i → rows_test above (drop i rows) ≡ true
 unfolding rows_test
-rows-test-end rows above n i h k = ap (rows_test above) (used-end rows n i (omega arith))
+rows-test-end rows above i h = ap (rows_test above) (drop_of_length-le rows h)
 
 -- whether a row waits, one row further
 pub waits-next : (rows : List RowValue) (i : ℕ) → i < length rows → any waits_value (take i rows) ≡ false

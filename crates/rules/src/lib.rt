@@ -2,6 +2,7 @@
 #![tactic(auto)]
 
 ghost use Rattle.std.specs.Prelude.{◌≡◌, [], map, ◌≤◌, take, drop};
+ghost use Rattle.std.specs.List.{list_all};
 ghost use Rattle.words.specs.Choice.{◌and◌};
 ghost use Rattle.words.specs.Lists.{is_zero, all};
 ghost use Rattle.table.specs.Limits.{most_rows, most_times};
@@ -16,19 +17,25 @@ use ticks::Length;
 fn name_byte(b: u8) -> bool
     ensures { result ≡ name_byte b }
 {
-    if b == 45 {
+    if b == b'-' {
         return true;
     }
-    if b < 48 {
+    if b < b'0' {
         return false;
     }
-    if b <= 57 {
+    if b <= b'9' {
         return true;
     }
-    if b < 97 {
+    if b < b'a' {
         return false;
     }
-    b <= 122
+    b <= b'z'
+}
+
+fn name_bytes(bytes: &[u8]) -> bool
+    ensures { result ≡ list_all name_byte bytes.now }
+{
+    bytes.iter().all(|b| name_byte(*b))
 }
 
 // Whether the bytes are a name.
@@ -41,41 +48,19 @@ pub fn right_name(bytes: &[u8]) -> bool
     if Table::NAME < bytes.len() {
         return false;
     }
-    let mut i: usize = 0;
-    while i < bytes.len() {
-        if !name_byte(bytes[i]) {
-            return false;
-        }
-        i += 1;
-    }
-    true
+    name_bytes(bytes)
 }
 
 fn zero_bytes(bytes: &[u8]) -> bool
-    ensures { result ≡ all is_zero bytes.now }
+    ensures { result ≡ list_all is_zero bytes.now }
 {
-    let mut i: usize = 0;
-    while i < bytes.len() {
-        if bytes[i] != 0 {
-            return false;
-        }
-        i += 1;
-    }
-    true
+    bytes.iter().all(|b| *b == 0)
 }
 
-fn zero_times(times: [Length; Table::TIMES], from: usize) -> bool
-    requires { from ≤ most_times }
-    ensures { result ≡ all is_zero (drop from (map ticks times)) }
+fn zero_times(times: &[Length]) -> bool
+    ensures { result ≡ list_all (λ time. is_zero time.0) times.now }
 {
-    let mut i = from;
-    while i < Table::TIMES {
-        if times[i].0 != 0 {
-            return false;
-        }
-        i += 1;
-    }
-    true
+    times.iter().all(|time| time.0 == 0)
 }
 
 fn right_number(x: Length) -> bool
@@ -87,19 +72,10 @@ fn right_number(x: Length) -> bool
     x.0 <= Table::NUMBER
 }
 
-fn right_times(times: [Length; Table::TIMES], count: usize) -> bool
-    requires { count ≤ most_times }
-    ensures { result ≡ all right_number (take count (map ticks times)) }
+fn right_times(times: &[Length]) -> bool
+    ensures { result ≡ list_all (λ time. right_number time.0) times.now }
 {
-    let mut i: usize = 0;
-    while i < count {
-        let time = times[i];
-        if !right_number(time) {
-            return false;
-        }
-        i += 1;
-    }
-    true
+    times.iter().all(|time| right_number(*time))
 }
 
 // Two tests at once, with no branch for a proof to follow.
@@ -124,8 +100,11 @@ fn right_row(row: Row) -> bool
     let times = row.times;
     let len = row.name_len();
     let count = row.count();
-    let lengths = both(row.deadline.0 <= row.period.0, !row.too_long());
-    let timed = both(right_count(count), both(right_times(times, count), lengths));
+    let lengths = both(row.deadline <= row.period, !row.too_long());
+    let timed = both(
+        right_count(count),
+        both(right_times(&times[..count]), lengths),
+    );
     let numbers = both(
         right_number(row.period),
         both(right_number(row.deadline), timed),
@@ -133,7 +112,7 @@ fn right_row(row: Row) -> bool
     let right = both(right_name(&name[..len]), numbers);
     both(
         zero_bytes(&name[len..]),
-        both(zero_times(times, count), right),
+        both(zero_times(&times[count..]), right),
     )
 }
 
@@ -145,49 +124,36 @@ fn unused_row(row: Row) -> bool
     let times = row.times;
     let numbers = both(
         row.period.0 == 0,
-        both(row.deadline.0 == 0, zero_times(times, 0)),
+        both(row.deadline.0 == 0, zero_times(&times)),
     );
-    both(zero_bytes(&name[..]), numbers)
+    both(zero_bytes(&name), numbers)
 }
 
-// Whether the first n rows are right, each after those above it.
-fn rows_right(rows: [Row; Table::ROWS], n: usize) -> bool
-    requires { n ≤ most_rows }
-    ensures { result ≡ rows_test [] (take n rows) }
+// Whether the rows in use are right, each after those above it.
+fn rows_right(rows: &[Row]) -> bool
+    ensures { result ≡ rows_test [] rows.now }
 {
     let mut waiting = false;
-    let mut i: usize = 0;
-    while i < n {
+    for (i, row) in rows.iter().enumerate() {
         if waiting {
             return false;
         }
-        let row = rows[i];
-        if !right_row(row) {
+        if !right_row(*row) {
             return false;
         }
-        let name = row.name;
-        if table::named(rows, i, name) {
+        if table::named(rows, i, row.name) {
             return false;
         }
         waiting = row.waits();
-        i += 1;
     }
     true
 }
 
-fn rest_unused(rows: [Row; Table::ROWS], n: usize) -> bool
-    requires { n ≤ most_rows }
-    ensures { result ≡ all unused (drop n rows) }
+// Whether rows that are not in use are all zero.
+fn all_unused(rows: &[Row]) -> bool
+    ensures { result ≡ list_all unused rows.now }
 {
-    let mut i = n;
-    while i < Table::ROWS {
-        let row = rows[i];
-        if !unused_row(row) {
-            return false;
-        }
-        i += 1;
-    }
-    true
+    rows.iter().all(|row| unused_row(*row))
 }
 
 // Whether a table value keeps every rule: the test behind refusal 20.
@@ -203,8 +169,8 @@ pub fn well_formed(table: Table) -> bool
     if Table::ROWS < len {
         return false;
     }
-    if !rows_right(rows, len) {
+    if !rows_right(&rows[..len]) {
         return false;
     }
-    rest_unused(rows, len)
+    all_unused(&rows[len..])
 }

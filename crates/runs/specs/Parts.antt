@@ -1,25 +1,24 @@
--- The parts of a run's text, as the code writes them. proofs/Tables shows that together they are `run_text`.
-use Rattle.std.specs.Prelude.{List, [], ◌∷◌, map, ℕ, get_or}
+-- The lines of a run, as the code has them. proofs/Tables shows that together they are `run_text`.
+use Rattle.std.specs.Prelude.{Option, Some, None, List, [], ◌∷◌, map, ℕ, min, get_or}
 use Rattle.words.specs.Lists.{below}
 use Rattle.words.specs.Spelled.{spelled}
 use Rattle.decimal.specs.Decimal.{digits}
-use Rattle.fields.specs.Fields.{line, joined}
+use Rattle.fields.specs.Fields.{line}
 use Rattle.table.specs.Value.{no_value, row_of}
 use Rattle.table.specs.declared.Row.{Row as RowValue}
-use Rattle.machine.specs.declared.First.{First}
-use Rattle.machine.specs.declared.First.TheVariants.{At, Not}
-use Rattle.machine.specs.declared.Slot.{Slot}
-use Rattle.machine.specs.Run.{no_slot}
+use Rattle.ticks.specs.declared.Instant.{Instant}
+use Rattle.table.specs.Limits.{most_rows}
+use Rattle.runs.specs.declared.Run.{Run}
 
 -- a completion, as the machine has it
-abbrev pub first_text : First → List ℕ
-first_text (At i) = digits i.0
-first_text Not = spelled "-"
+abbrev pub first_text : Option Instant → List ℕ
+first_text (Some i) = digits i.0
+first_text None = spelled "-"
 
 -- the line of row k, from 0
-abbrev pub line_at : List RowValue → List Slot → ℕ → List ℕ
-line_at rows slots k = line (row_of (get_or rows k no_value)).name (first_text (get_or slots k no_slot).first ∷ [])
+abbrev pub line_at : List RowValue → List (Option Instant) → ℕ → List ℕ
+line_at rows firsts k = line (row_of (get_or rows k no_value)).name (first_text (get_or firsts k None) ∷ [])
 
--- the first n lines
-abbrev pub lines_text : List RowValue → List Slot → ℕ → List ℕ
-lines_text rows slots n = joined (map (line_at rows slots) (below n))
+-- the lines of a run: no more than the arrays have
+abbrev pub run_lines : Run → List (List ℕ)
+run_lines r = map (line_at r.table.rows r.firsts) (below (min r.table.len most_rows))

@@ -1,34 +1,20 @@
--- What an item tells: only bytes count any, and those stand behind the two bytes of their length.
-use Rattle.std.proofs.Common.{◌≡◌, ℕ, ◌+◌, ◌*◌, ◌/◌, ◌%◌, ◌<◌, ◌≤◌, List, [], ◌∷◌, ◌++◌, arith, length, take, slice_index_or, refl, sym, ap, ◌∙◌, take_all}
-use lib.Seq.{take-append-le}
+-- The two bytes of a length, and then so many bytes, are an item.
+use Rattle.std.proofs.Common.{◌≡◌, ℕ, ◌/◌, ◌%◌, ◌^◌, ◌<◌, ◌≤◌, List, [], ◌∷◌, ◌++◌, arith, length, take, get_or, sym, ap, ◌∙◌, take_all}
+use lib.Seq.{take-append_seam}
+use Rattle.std.proofs.lemmas.Nat.{be_bytes_2}
+use Rattle.std.specs.Int.{w16, from_be_bytes}
 use Rattle.streams.specs.Items.{item_of}
-use Rattle.streams.specs.declared.Item.TheVariants.{Bytes}
 
-pub bytes_same : (m n : ℕ) → Bytes m ≡ Bytes n → m ≡ n
-bytes_same m n e = cc
-
-two : (h : List ℕ) → length h ≡ 2 → h ≡ slice_index_or h 0 0 ∷ slice_index_or h 1 0 ∷ []
-two [] e = absurd (omega (arith, e))
-two (x ∷ []) e = absurd (omega (arith, e))
-two (x ∷ y ∷ []) e = refl
-two (x ∷ y ∷ z ∷ t) e = absurd (omega (arith, e))
-
-high : (hi lo n : ℕ) → n ≡ hi * 256 + lo → lo < 256 → hi ≡ n / 256
-high hi lo n e h = omega arith
-
-low : (hi lo n : ℕ) → n ≡ hi * 256 + lo → lo < 256 → lo ≡ n % 256
-low hi lo n e h = omega arith
-
--- a number's two bytes, and then so many bytes
-joined : (hi lo n : ℕ) (bs : List ℕ) → n ≡ length bs → n ≡ hi * 256 + lo → lo < 256 → (hi ∷ lo ∷ bs) ≡ item_of bs
-joined hi lo n bs l e h =
-    ap (λ x. x ∷ lo ∷ bs) (high hi lo n e h ∙ ap (λ m. m / 256) l) ∙ ap (λ x. (length bs / 256) ∷ x ∷ bs) (low hi lo n e h ∙ ap (λ m. m % 256) l)
+pub two-bytes : (n : ℕ) (head : List ℕ) → length head ≡ 2 → ((i : ℕ) → get_or head i 0 < 256) → n ≡ from_be_bytes w16 head → n < 2 ^ 16 → head ≡ n / 256 ∷ n % 256 ∷ []
+two-bytes n head two small is fits =
+    let high : n / 256 % 256 ≡ n / 256 = omega (arith, fits) in
+    sym (be_bytes_2 head n two small is) ∙ ap (λ x. x ∷ n % 256 ∷ []) high
 
 -- the head of an item and its bytes, at the front of the buffer, are what stood in the stream
-pub item-joined : (got hi lo n : ℕ) (h b rest : List ℕ) → length h ≡ 2 → 2 ≤ got → hi ≡ slice_index_or h 0 0 → lo ≡ slice_index_or h 1 0 → lo < 256 → n ≡ hi * 256 + lo → n ≤ length b → n ≡ length (take n b) → take got h ++ take n b ≡ item_of (take n (b ++ rest))
-item-joined got hi lo n h b rest two-long all is-hi is-lo small is fits long =
-    ap (λ l. l ++ take n b) (take_all got h (omega (arith, two-long, all)) ∙ two h two-long)
-    ∙ ap (λ x. x ∷ slice_index_or h 1 0 ∷ take n b) (sym is-hi)
-    ∙ ap (λ x. hi ∷ x ∷ take n b) (sym is-lo)
-    ∙ joined hi lo n (take n b) long is small
-    ∙ ap item_of (sym (take-append-le n b rest fits))
+pub item-joined : (got body n : ℕ) (head bs rest : List ℕ) → head ≡ n / 256 ∷ n % 256 ∷ [] → 2 ≤ got → length bs ≡ n → n ≤ body
+    → take got head ++ take body bs ≡ item_of (take n (bs ++ rest))
+item-joined got body n head bs rest is two long whole =
+    ap (λ l. l ++ take body bs) (take_all got head (omega (arith, ap length is, two)) ∙ is)
+    ∙ ap (λ l. n / 256 ∷ n % 256 ∷ l) (take_all body bs (omega (arith, long, whole)))
+    ∙ ap (λ m. m / 256 ∷ m % 256 ∷ bs) (sym long)
+    ∙ ap item_of (sym (ap (λ m. take m (bs ++ rest)) (sym long) ∙ take-append_seam bs rest))

@@ -1,75 +1,62 @@
 // Items from standard input: each is its length as two bytes, the higher one first, then so many bytes. The stream ends with the input.
 #![tactic(auto)]
 
-ghost use Rattle.std.specs.Prelude.{◌≡◌, ◌≢◌, ℕ, ◌<◌, length, take};
+ghost use Rattle.std.specs.Prelude.{◌≡◌, ◌/◌, ◌%◌, [], ◌∷◌, take, IfNone, IfOk, IfSome};
 ghost use Rattle.std.specs.Io.KnownBytes.{Consumes, IsAtEnd};
 ghost use Rattle.input.specs.Input.{IsPrefixLen};
 ghost use Rattle.streams.specs.Items.{item_of};
+ghost use Rattle.streams.specs.declared.StreamError.TheVariants.{Unread};
 
-use input::Input;
-use std::io::{Read, Write};
+use std::io;
+use std::io::Read;
 
-// What comes next in the stream.
+// Why no item comes next, where the stream is not over.
 #[derive(Clone, Copy)]
-pub enum Item {
-    // So many bytes, at the front of the buffer.
-    Bytes(usize),
-    // The input ended before an item.
-    Over,
+pub enum StreamError {
     // An item is longer than the buffer, or the input ended within it.
     Broken,
-    // A read failed, and standard error says so.
-    Failed,
+    // A read failed.
+    Unread(io::Error),
 }
 
-fn wide(byte: u8) -> usize
-    ensures below { result < 256 }
-    ensures same { result ≡ byte }
-{
-    byte as usize
-}
+impl From<io::Error> for StreamError {
+    ghost from_gives = { λ why e. e ≡ Unread why };
 
-// The bytes of an item: as many as the buffer has room for.
-fn body<R: Read, E: Write>(stdin: &mut R, stderr: &mut E, buf: &mut [u8]) -> Item
-    ensures within { (n : ℕ) → result ≡ Item.Bytes n → IsPrefixLen n buf.new }
-    ensures whole { (n : ℕ) → result ≡ Item.Bytes n → n ≡ length buf.new }
-    ensures bytes { (n : ℕ) → result ≡ Item.Bytes n
-        → Consumes (R.remaining stdin.old) (R.remaining stdin.new) (take n buf.new) }
-    ensures over { result ≢ Item.Over }
-{
-    match input::read_whole(stdin, stderr, buf) {
-        Input::Bytes(got) => {
-            if got < buf.len() {
-                return Item::Broken;
-            }
-            Item::Bytes(got)
-        }
-        Input::Failed => Item::Failed,
+    fn from(why: io::Error) -> StreamError {
+        StreamError::Unread(why)
     }
 }
 
-// Takes the next item out of the stream.
-pub fn next<R: Read, E: Write>(stdin: &mut R, stderr: &mut E, buf: &mut [u8]) -> Item
-    ensures within { (n : ℕ) → result ≡ Item.Bytes n → IsPrefixLen n buf.new }
-    ensures bytes { (n : ℕ) → result ≡ Item.Bytes n
-        → Consumes (R.remaining stdin.old) (R.remaining stdin.new) (item_of (take n buf.new)) }
-    ensures over { result ≡ Item.Over → IsAtEnd (R.remaining stdin.new) }
+// The length of an item, which its head says.
+fn length_of(head: [u8; 2]) -> usize
+    ensures { head ≡ result / 256 ∷ result % 256 ∷ [] }
+{
+    usize::from(u16::from_be_bytes(head))
+}
+
+// Takes the next item out of the stream, and answers how many bytes of it stand at the front of the buffer; there is none where the
+// stream is over.
+pub fn next<R: Read>(stdin: &mut R, buf: &mut [u8]) -> Result<Option<usize>, StreamError>
+    ensures within { IfOk result (λ item. IfSome item (λ n. IsPrefixLen n buf.new)) }
+    ensures bytes { IfOk result (λ item. IfSome item (λ n.
+        Consumes (R.remaining stdin.old) (R.remaining stdin.new) (item_of (take n buf.new)))) }
+    ensures over { IfOk result (λ item. IfNone item (IsAtEnd (R.remaining stdin.new))) }
 {
     let mut head = [0u8; 2];
-    match input::read_whole(stdin, stderr, &mut head) {
-        Input::Bytes(got) => {
-            if got == 0 {
-                return Item::Over;
-            }
-            if got < 2 {
-                return Item::Broken;
-            }
-            let len = wide(head[0]) * 256 + wide(head[1]);
-            if buf.len() < len {
-                return Item::Broken;
-            }
-            body(stdin, stderr, &mut buf[..len])
-        }
-        Input::Failed => Item::Failed,
+    let got = input::read_whole(stdin, &mut head)?;
+    if got == 0 {
+        return Ok(None);
     }
+    if got < head.len() {
+        return Err(StreamError::Broken);
+    }
+    let len = length_of(head);
+    if buf.len() < len {
+        return Err(StreamError::Broken);
+    }
+    let body = input::read_whole(stdin, &mut buf[..len])?;
+    if body < len {
+        return Err(StreamError::Broken);
+    }
+    Ok(Some(len))
 }

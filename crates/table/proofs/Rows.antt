@@ -1,6 +1,5 @@
 -- Laws of a row value and of the rows of a table value, as loops go by them.
-use mathlib.Core.Path.{◌≡◌, ap, ◌∙◌}
-use mathlib.Core.Bool.{false}
+use mathlib.Core.Path.{◌≡◌, ◌∙◌}
 use mathlib.Core.List.{List, [], ◌∷◌, map}
 use Prim.Native.Nat.{ℕ, ◌+◌, ◌≤◌, ◌<◌, min}
 use native.Mathlib.Omega.{arith}
@@ -10,14 +9,12 @@ use lib.ListN.{length, length-take, get_or, take, drop, get_or-map, length-map, 
 use lib.Seq.{drop-cons, get_or-take}
 use borrow.Author.Tests.{le-leb}
 use Rattle.ticks.specs.declared.Length.{Length}
-use Rattle.words.specs.Choice.{◌or◌}
-use Rattle.words.specs.Lists.{any, same}
 use Rattle.words.proofs.Lists.{length-up_to, take-up_to}
 use Rattle.words.proofs.Choice.{and-true}
 use Rattle.table.specs.declared.Row.{Row as RowValue}
 use Rattle.table.specs.Limits.{longest_name, largest_number, most_times}
 use Rattle.table.specs.Paper.{right_number}
-use Rattle.table.specs.Value.{no_value, row_of, name_in}
+use Rattle.table.specs.Value.{no_value, row_of}
 use Rattle.ticks.specs.Ticks.{ticks, long}
 
 -- a row's times as numbers
@@ -60,12 +57,3 @@ pub used-end : (rows : List RowValue) (n i : ℕ) → min n (length rows) ≤ i 
 used-end rows n i h =
     let l : length (take n rows) ≤ i = rw (length-take n rows) h in
     drop_of_length-le (take n rows) l
-
-pub name-in-at : (x : List ℕ) (rows : List RowValue) (n i : ℕ) → i < n → i < length rows
-    → name_in x (drop i (take n rows)) ≡ (same x (get_or rows i no_value).name or name_in x (drop (i + 1) (take n rows)))
-unfolding name_in any
-name-in-at x rows n i h k = ap (any (λ (v : RowValue). same x v.name)) (used-row rows n i h k)
-
-pub name-in-end : (x : List ℕ) (rows : List RowValue) (n i : ℕ) → min n (length rows) ≤ i → name_in x (drop i (take n rows)) ≡ false
-unfolding name_in any
-name-in-end x rows n i h = ap (any (λ (v : RowValue). same x v.name)) (used-end rows n i h)

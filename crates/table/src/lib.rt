@@ -44,30 +44,24 @@ impl Row {
     pub fn name_len(self) -> usize
         ensures { result ≡ length (row_of self).name }
     {
-        let name = self.name;
-        let mut len: usize = 0;
-        while len < Table::NAME {
-            if name[len] == 0 {
+        for (len, byte) in self.name.iter().enumerate() {
+            if *byte == 0 {
                 return len;
             }
-            len += 1;
         }
-        len
+        Table::NAME
     }
 
     // How many times the row has, C and S together.
     pub fn count(self) -> usize
         ensures { result ≡ length (row_of self).times }
     {
-        let times = self.times;
-        let mut count: usize = 0;
-        while count < Table::TIMES {
-            if times[count].0 == 0 {
+        for (count, time) in self.times.iter().enumerate() {
+            if time.0 == 0 {
                 return count;
             }
-            count += 1;
         }
-        count
+        Table::TIMES
     }
 
     // Whether the row has a suspension.
@@ -81,16 +75,12 @@ impl Row {
     pub fn too_long(self) -> bool
         ensures { result ≡ ltb self.deadline.0 (sum (map ticks self.times)) }
     {
-        let times = self.times;
         let mut left = self.deadline.0;
-        let mut i: usize = 0;
-        while i < Table::TIMES {
-            let time = times[i];
+        for time in &self.times {
             if left < time.0 {
                 return true;
             }
             left -= time.0;
-            i += 1;
         }
         false
     }
@@ -127,34 +117,14 @@ impl Table {
     }
 }
 
-fn same_name(a: [u8; Table::NAME], b: [u8; Table::NAME]) -> bool
-    ensures { result ≡ same a b }
-{
-    let mut i: usize = 0;
-    while i < Table::NAME {
-        if a[i] != b[i] {
-            return false;
-        }
-        i += 1;
-    }
-    true
-}
-
 // Whether one of the first n rows has the name.
-pub fn named(rows: [Row; Table::ROWS], n: usize, name: [u8; Table::NAME]) -> bool
-    ensures { result ≡ name_in name (take n rows) }
+pub fn named(rows: &[Row], n: usize, name: [u8; Table::NAME]) -> bool
+    ensures { result ≡ name_in name (take n rows.now) }
 {
-    let mut i: usize = 0;
-    while i < Table::ROWS {
-        if n <= i {
-            return false;
-        }
-        let row = rows[i];
-        let other = row.name;
-        if same_name(name, other) {
+    for row in &rows[..n.min(rows.len())] {
+        if name == row.name {
             return true;
         }
-        i += 1;
     }
     false
 }

@@ -12,18 +12,16 @@ use Rattle.words.specs.Choice.{◌and◌}
 use Rattle.words.specs.Lists.{sum, all, any}
 use Rattle.words.proofs.Choice.{and_both}
 use Rattle.decimal.specs.Decimal.{read_number, digits}
-use Rattle.decimal.specs.declared.Number.{Number}
-use Rattle.decimal.specs.declared.Number.TheVariants.{Is, No}
+use Rattle.std.specs.Prelude.{Option, Some, None, Ok, Err}
 use Rattle.decimal.proofs.Reading.{digits_number}
 use Rattle.table.specs.Limits.{most_rows, largest_number, longest_text}
 use Rattle.table.specs.Paper.{Row, Table, right_name, right_number, right_count, right_row, waits, named, right_rows, right_table}
 use Rattle.table.specs.Value.{table_of, table_value, well_formed}
 use Rattle.table.proofs.Rules.{value-back, value-right, table-right}
+use Rattle.table.specs.declared.Table.{Table as TableValue}
 use Rattle.refusals.specs.declared.Refusal.{Refusal}
 use Rattle.refusals.specs.declared.Refusal.TheVariants.{NoText, LongText, NoLineFeed, ManyLines, AfterWaiting, FieldCount, BadName, BadNumber, LateDeadline, LongTimes, NameTaken}
 use Rattle.fields.specs.Fields.{line_feed, joined}
-use Rattle.text.specs.declared.Outcome.TheVariants.{Accepted, Refused}
-use Rattle.text.specs.declared.Reading.{Reading}
 use Rattle.text.specs.Split.{lines, fields}
 use Rattle.text.specs.Read.{Answer, accepted, refused, Line, got, bad, fixed_fields, right_fields, no_row, with_name, with_number, on_number, on_line, read_fields, check_row, read_line, read_lines, read_text, reading_of}
 use Rattle.text.specs.Write.{line_text, table_text}
@@ -81,10 +79,10 @@ numbers-back (x ∷ xs) n f r q h e =
     go (read_number 1 largest_number x) refl (rw (ne_eqb f 1 (omega arith)) at e)
     (λ v i. numbers-back xs n (f + 1) (with_number r f v) q (omega arith) i)
   where
-    go : (m : Number) → read_number 1 largest_number x ≡ m → on_number m (λ v. read_fields n (f + 1) (with_number r f v) xs) (bad (BadNumber n f)) ≡ got q
+    go : (m : Option ℕ) → read_number 1 largest_number x ≡ m → on_number m (λ v. read_fields n (f + 1) (with_number r f v) xs) (bad (BadNumber n f)) ≡ got q
         → ((v : ℕ) → read_fields n (f + 1) (with_number r f v) xs ≡ got q → Numbers (f + 1) (with_number r f v) xs q) → Numbers f r (x ∷ xs) q
-    go No p e ih = not-bad (BadNumber n f) q e
-    go (Is v) p e ih =
+    go None p e ih = not-bad (BadNumber n f) q e
+    go (Some v) p e ih =
         let i = ih v e in
         let d = digits_number 1 largest_number x v p in
         record { values = v ∷ i.values; written = rw (d.0, ← i.written); right = and_both (right-number v d.1 d.2) i.right; row = i.row }
@@ -223,27 +221,28 @@ pub text-one : (s s' : List ℕ) (t : Table) → read_text s ≡ accepted t → 
 text-one s s' t e e' = sym (text-back s t e) ∙ text-back s' t e'
 
 -- a reading that was accepted has a well-formed table, which stands for the text's
-pub reading-accepted : (s : List ℕ) (r : Reading) → r ≡ reading_of (read_text s) → r.outcome ≡ Accepted → (well_formed r.table ≡ true) × (read_text s ≡ accepted (table_of r.table))
-reading-accepted s r e o = go (read_text s) refl
+pub reading-accepted : (s : List ℕ) (v : TableValue) → Ok v ≡ reading_of (read_text s) → (well_formed v ≡ true) × (read_text s ≡ accepted (table_of v))
+reading-accepted s v e = go (read_text s) refl
   where
-    go : (a : Answer) → read_text s ≡ a → (well_formed r.table ≡ true) × (read_text s ≡ accepted (table_of r.table))
+    go : (a : Answer) → read_text s ≡ a → (well_formed v ≡ true) × (read_text s ≡ accepted (table_of v))
     go (accepted t) p =
-        let q : r.table ≡ table_value t = ap (λ (x : Reading). x.table) (e ∙ ap reading_of p) in
+        let o : Ok v ≡ Ok (table_value t) = e ∙ ap reading_of p in
+        let q : v ≡ table_value t = cc in
         let ok = text-right s t p in
         (ap well_formed q ∙ value-right t ok, p ∙ ap accepted (sym (ap table_of q ∙ value-back t (table-right t ok))))
     go (refused x) p =
-        let z : Accepted ≡ Refused x = sym o ∙ ap (λ (y : Reading). y.outcome) (e ∙ ap reading_of p) in
-        absurd (let y : ◌≡◌ {A = ℕ} 0 1 = cc in omega arith)
+        let o : Ok v ≡ Err x = e ∙ ap reading_of p in
+        cc
 
 -- one that was refused has the text's refusal
-pub reading-refused : (s : List ℕ) (r : Reading) (x : Refusal) → r ≡ reading_of (read_text s) → r.outcome ≡ Refused x → read_text s ≡ refused x
-reading-refused s r x e o = go (read_text s) refl
+pub reading-refused : (s : List ℕ) (x : Refusal) → Err x ≡ reading_of (read_text s) → read_text s ≡ refused x
+reading-refused s x e = go (read_text s) refl
   where
     go : (a : Answer) → read_text s ≡ a → read_text s ≡ refused x
     go (accepted t) p =
-        let z : Refused x ≡ Accepted = sym o ∙ ap (λ (y : Reading). y.outcome) (e ∙ ap reading_of p) in
-        absurd (let y : ◌≡◌ {A = ℕ} 0 1 = cc in omega arith)
+        let o : Err x ≡ Ok (table_value t) = e ∙ ap reading_of p in
+        cc
     go (refused w) p =
-        let z : Refused x ≡ Refused w = sym o ∙ ap (λ (y : Reading). y.outcome) (e ∙ ap reading_of p) in
+        let o : Err x ≡ Err w = e ∙ ap reading_of p in
         let q : w ≡ x = cc in
         p ∙ ap refused q

@@ -10,8 +10,7 @@ use lib.ListN.{length, get_or, length-append}
 use borrow.Author.Tests.{eqb-true, eqb-false, ltb-true, ltb-false, leb-true}
 use Rattle.words.specs.Lists.{sum, any}
 use Rattle.words.proofs.Choice.{and_parts}
-use Rattle.decimal.specs.declared.Number.{Number}
-use Rattle.decimal.specs.declared.Number.TheVariants.{Is, No}
+use Rattle.std.specs.Prelude.{Option, Some, None}
 use Rattle.decimal.specs.Decimal.{read_number}
 use Rattle.table.specs.Limits.{most_rows, most_times, largest_number, longest_text}
 use Rattle.table.specs.Paper.{Row, Table, right_name, right_count, waits, named}
@@ -53,9 +52,9 @@ either : {n : ℕ} (b : Bool) {x y : Line} → InLine n x → InLine n y → InL
 either true p q = p
 either false p q = q
 
-on-number : {n : ℕ} (o : Number) (g : ℕ → Line) (x : Line) → ((v : ℕ) → InLine n (g v)) → InLine n x → InLine n (on_number o g x)
-on-number (Is v) g x p q = p v
-on-number No g x p q = q
+on-number : {n : ℕ} (o : Option ℕ) (g : ℕ → Line) (x : Line) → ((v : ℕ) → InLine n (g v)) → InLine n x → InLine n (on_number o g x)
+on-number (Some v) g x p q = p v
+on-number None g x p q = q
 
 fields_in : (n f : ℕ) (r : Row) (xs : List (List ℕ)) → f + length xs ≤ most_fields + 1 → InLine n (read_fields n f r xs)
 unfolding read_fields

@@ -10,8 +10,7 @@ use lib.ListN.{length, get_or, length-append}
 use borrow.Author.Tests.{eqb-false}
 use Rattle.words.specs.Lists.{sum, any}
 use Rattle.decimal.specs.Decimal.{read_number}
-use Rattle.decimal.specs.declared.Number.{Number}
-use Rattle.decimal.specs.declared.Number.TheVariants.{Is, No}
+use Rattle.std.specs.Prelude.{Option, Some, None}
 use Rattle.table.specs.Limits.{most_rows, most_times, largest_number, longest_text}
 use Rattle.table.specs.Paper.{Row, Table, right_name, waits, named}
 use Rattle.table.proofs.Rules.{count_most}
@@ -43,9 +42,9 @@ if-both P true x y p q = p refl
 if-both P false x y p q = q refl
 
 -- so has what goes on with a number, or without
-number-both : {A : Type 0} (P : A → Type 0) (m : Number) (f : ℕ → A) (a : A) → ((v : ℕ) → P (f v)) → P a → P (on_number m f a)
-number-both P (Is v) f a p q = p v
-number-both P No f a p q = q
+number-both : {A : Type 0} (P : A → Type 0) (m : Option ℕ) (f : ℕ → A) (a : A) → ((v : ℕ) → P (f v)) → P a → P (on_number m f a)
+number-both P (Some v) f a p q = p v
+number-both P None f a p q = q
 
 -- how many fields a line has that passed 6
 fields-most : (k : ℕ) → right_fields k ≡ true → k ≤ fixed_fields + most_times

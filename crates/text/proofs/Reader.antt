@@ -11,7 +11,7 @@ use Rattle.words.specs.Lists.{sum, all, any, up_to, padded}
 use Rattle.words.proofs.Choice.{and_both}
 use Rattle.words.proofs.Lists.{all_append, any_last}
 use Rattle.decimal.specs.Decimal.{read_number}
-use Rattle.decimal.specs.declared.Number.TheVariants.{Is, No}
+use Rattle.std.specs.Prelude.{Some, None}
 use Rattle.decimal.proofs.Reading.{digits_number}
 use Rattle.table.specs.declared.Row.{Row as RowValue}
 use Rattle.table.specs.declared.Table.{Table as TableValue}
@@ -134,7 +134,7 @@ module _ {line : List ℕ} {n : ℕ} {w : RowValue} {f p q : ℕ} (a : AtTab lin
   pub refused-name : f ≡ 1 → right_name (field_at line p q) ≡ false → read_fields n 1 no_row (fields line) ≡ bad (BadName n)
   refused-name h e = opened ∙ bad-name n f (row_of w) (field_at line p q) _ h e
 
-  pub refused-number : (f ≡ 1 → ⊥) → read_number 1 largest_number (field_at line p q) ≡ No → read_fields n 1 no_row (fields line) ≡ bad (BadNumber n f)
+  pub refused-number : (f ≡ 1 → ⊥) → read_number 1 largest_number (field_at line p q) ≡ None → read_fields n 1 no_row (fields line) ≡ bad (BadNumber n f)
   refused-number h e = opened ∙ bad-number n f (row_of w) (field_at line p q) _ h e
 
   -- the next field
@@ -157,7 +157,7 @@ module _ {line : List ℕ} {n : ℕ} {w : RowValue} {f p q : ℕ} (a : AtTab lin
       let s = stands u r (j ∙ value-name w (field_at line p q) a.field.kept) (name-lacks (field_at line p q) e) (row-lacks w).1 in
       next u r s.0 s.1 (a.field.times ∙ omega arith) (next-name n f (row_of w) (field_at line p q) _ h e)
 
-  pub after-number : (m : ℕ) → (f ≡ 1 → ⊥) → read_number 1 largest_number (field_at line p q) ≡ Is m → (u : RowValue)
+  pub after-number : (m : ℕ) → (f ≡ 1 → ⊥) → read_number 1 largest_number (field_at line p q) ≡ Some m → (u : RowValue)
       → u ≡ row_value (with_number (row_of w) f m) → AtField line n u (f + 1) (q + 1)
   after-number m h e u j =
       let b : 2 ≤ f = omega (arith, a.field.some, h) in

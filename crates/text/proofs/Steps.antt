@@ -8,7 +8,7 @@ use lib.ListN.{length, get_or}
 use borrow.Author.Tests.{eq-eqb, ne_eqb, lt-ltb, le-ltb}
 use Rattle.words.specs.Lists.{sum, any}
 use Rattle.decimal.specs.Decimal.{read_number}
-use Rattle.decimal.specs.declared.Number.TheVariants.{Is, No}
+use Rattle.std.specs.Prelude.{Some, None}
 use Rattle.table.specs.Limits.{most_rows, largest_number, longest_text}
 use Rattle.table.specs.Paper.{Row, Table, right_name, waits, named}
 use Rattle.refusals.specs.declared.Refusal.{Refusal}
@@ -32,11 +32,11 @@ module _ (n f : ℕ) (r : Row) where
     unfolding read_fields
     next-name h e = rw (eq-eqb f 1 h, e)
 
-    pub bad-number : (f ≡ 1 → ⊥) → read_number 1 largest_number x ≡ No → read_fields n f r (x ∷ xs) ≡ bad (BadNumber n f)
+    pub bad-number : (f ≡ 1 → ⊥) → read_number 1 largest_number x ≡ None → read_fields n f r (x ∷ xs) ≡ bad (BadNumber n f)
     unfolding read_fields
     bad-number h e = rw (ne_eqb f 1 h, e)
 
-    pub next-number : (v : ℕ) → (f ≡ 1 → ⊥) → read_number 1 largest_number x ≡ Is v → read_fields n f r (x ∷ xs) ≡ read_fields n (f + 1) (with_number r f v) xs
+    pub next-number : (v : ℕ) → (f ≡ 1 → ⊥) → read_number 1 largest_number x ≡ Some v → read_fields n f r (x ∷ xs) ≡ read_fields n (f + 1) (with_number r f v) xs
     unfolding read_fields
     next-number v h e = rw (ne_eqb f 1 h, e)
 

@@ -1,3 +1,4 @@
 pub mod Split
 pub mod Read
 pub mod Write
+pub mod Parts

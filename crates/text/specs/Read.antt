@@ -1,18 +1,14 @@
 -- What reading a text gives: document 01, 'Refusal numbers', in the order in which it tests.
-use Rattle.std.specs.Prelude.{Bool, List, [], ◌∷◌, ◌++◌, ℕ, ◌+◌, ◌-◌, eqb, ltb, length, get_or, if◌then◌else◌}
+use Rattle.std.specs.Prelude.{Option, Some, None, Result, Ok, Err, Bool, List, [], ◌∷◌, ◌++◌, ℕ, ◌+◌, ◌-◌, eqb, ltb, length, get_or, if◌then◌else◌}
 use Rattle.words.specs.Lists.{sum, any}
 use Rattle.decimal.specs.Decimal.{read_number}
-use Rattle.decimal.specs.declared.Number.{Number}
-use Rattle.decimal.specs.declared.Number.TheVariants.{Is, No}
 use Rattle.table.specs.Limits.{most_rows, largest_number, longest_text}
 use Rattle.table.specs.Paper.{Row, Table, right_name, right_count, waits, named}
 use Rattle.table.specs.Value.{table_value, empty_table}
+use Rattle.table.specs.declared.Table.{Table as TableValue}
 use Rattle.refusals.specs.declared.Refusal.{Refusal}
 use Rattle.refusals.specs.declared.Refusal.TheVariants.{NoText, LongText, NoLineFeed, ManyLines, AfterWaiting, FieldCount, BadName, BadNumber, LateDeadline, LongTimes, NameTaken}
 use Rattle.refusals.specs.Refusals.{number_of, line_of, field_of}
-use Rattle.text.specs.declared.Outcome.{Outcome}
-use Rattle.text.specs.declared.Outcome.TheVariants.{Accepted, Refused}
-use Rattle.text.specs.declared.Reading.{Reading}
 use Rattle.fields.specs.Fields.{line_feed}
 use Rattle.text.specs.Split.{lines, fields}
 
@@ -50,9 +46,9 @@ with_number r f v =
     else record { name = r.name; period = r.period; deadline = r.deadline; times = r.times ++ (v ∷ []) }
 
 -- goes on with the number, where there is one
-abbrev pub on_number : {A : Type 0} → Number → (ℕ → A) → A → A
-on_number (Is v) f a = f v
-on_number No f a = a
+abbrev pub on_number : {A : Type 0} → Option ℕ → (ℕ → A) → A → A
+on_number (Some v) f a = f v
+on_number None f a = a
 
 -- 7 and 8: the fields of line n from field f on, left to right, where r is the row so far
 unfoldable pub read_fields : ℕ → ℕ → Row → List (List ℕ) → Line
@@ -97,22 +93,27 @@ read_text s =
     else if eqb (get_or s (length s - 1) 0) line_feed then read_lines [] (lines s)
     else refused NoLineFeed
 
--- the answer as a value: after a refusal the table is empty
-abbrev pub reading_of : Answer → Reading
-reading_of (accepted t) = record { outcome = Accepted; table = table_value t }
-reading_of (refused x) = record { outcome = Refused x; table = empty_table }
+-- the answer as a value
+abbrev pub reading_of : Answer → Result TableValue Refusal
+reading_of (accepted t) = Ok (table_value t)
+reading_of (refused x) = Err x
 
--- the number of a reading's outcome: 0 where the text was accepted
-abbrev pub number_of_outcome : Outcome → ℕ
-number_of_outcome Accepted = 0
-number_of_outcome (Refused x) = number_of x
+-- the table of a reading: the empty table after a refusal, of which no row is kept
+abbrev pub table_in : Result TableValue Refusal → TableValue
+table_in (Ok v) = v
+table_in (Err x) = empty_table
+
+-- the number of a reading: 0 where the text was accepted
+abbrev pub number_of_outcome : Result TableValue Refusal → ℕ
+number_of_outcome (Ok v) = 0
+number_of_outcome (Err x) = number_of x
 
 -- its line, 0 where the text was accepted
-abbrev pub line_of_outcome : Outcome → ℕ
-line_of_outcome Accepted = 0
-line_of_outcome (Refused x) = line_of x
+abbrev pub line_of_outcome : Result TableValue Refusal → ℕ
+line_of_outcome (Ok v) = 0
+line_of_outcome (Err x) = line_of x
 
 -- its field, 0 where the text was accepted
-abbrev pub field_of_outcome : Outcome → ℕ
-field_of_outcome Accepted = 0
-field_of_outcome (Refused x) = field_of x
+abbrev pub field_of_outcome : Result TableValue Refusal → ℕ
+field_of_outcome (Ok v) = 0
+field_of_outcome (Err x) = field_of x

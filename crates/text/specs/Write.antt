@@ -1,14 +1,13 @@
 -- The text of a table, and what writing it into a lent buffer gives.
-use Rattle.std.specs.Prelude.{List, ◌∷◌, map, ℕ, leb, length, if◌then◌else◌}
+use Rattle.std.specs.Prelude.{Result, Ok, Err, List, ◌∷◌, map, ℕ, leb, length, if◌then◌else◌}
 use Rattle.words.specs.Buffer.{placed}
 use Rattle.decimal.specs.Decimal.{digits}
 use Rattle.table.specs.Paper.{Row, Table}
 use Rattle.table.specs.Value.{table_of, well_formed}
 use Rattle.table.specs.declared.Table.{Table as TableValue}
+use Rattle.refusals.specs.declared.Refusal.{Refusal}
 use Rattle.refusals.specs.declared.Refusal.TheVariants.{BadTable, NoRoom}
 use Rattle.refusals.specs.Refusals.{number_of}
-use Rattle.text.specs.declared.Written.{Written}
-use Rattle.text.specs.declared.Written.TheVariants.{Bytes, Refused}
 use Rattle.fields.specs.Fields.{line, joined}
 
 -- a row's line: name, T, D, and the times
@@ -20,17 +19,17 @@ unfoldable pub table_text : Table → List ℕ
 table_text t = joined (map line_text t)
 
 -- the length of what is to be put into a buffer; 22 where it is too short
-abbrev pub length_in : List ℕ → List ℕ → Written
-length_in bs d = if leb (length bs) (length d) then Bytes (length bs) else Refused NoRoom
+abbrev pub length_in : List ℕ → List ℕ → Result ℕ Refusal
+length_in bs d = if leb (length bs) (length d) then Ok (length bs) else Err NoRoom
 
 -- the number of what was written: 0 where it was
-abbrev pub number_of_written : Written → ℕ
-number_of_written (Bytes n) = 0
-number_of_written (Refused x) = number_of x
+abbrev pub number_of_written : Result ℕ Refusal → ℕ
+number_of_written (Ok n) = 0
+number_of_written (Err x) = number_of x
 
 -- 20, then 22, else the length
-unfoldable pub written : TableValue → List ℕ → Written
-written v d = if well_formed v then length_in (table_text (table_of v)) d else Refused BadTable
+unfoldable pub written : TableValue → List ℕ → Result ℕ Refusal
+written v d = if well_formed v then length_in (table_text (table_of v)) d else Err BadTable
 
 -- the buffer afterwards: unchanged after a refusal
 unfoldable pub written_into : TableValue → List ℕ → List ℕ

@@ -1,5 +1,5 @@
 -- The verdict of a table, row by row.
-use Rattle.std.specs.Prelude.{if◌then◌else◌}
+use Rattle.std.specs.Prelude.{Ok, if◌then◌else◌}
 use mathlib.Core.Path.{◌≡◌, refl, sym, ap, ◌∙◌}
 use mathlib.Core.Bool.{Bool, true, false, false≢true}
 use mathlib.Core.List.{List, [], ◌∷◌, ◌++◌}
@@ -16,7 +16,7 @@ use Rattle.verdicts.specs.Verdicts.{fits, misses, overall, joined_of}
 abbrev status : Bool → Bool → TableVerdict
 status a m = if a then TableFits else if m then TableMisses else TableOpen
 
-status-next : (a m : Bool) (x : Verdict) → (a ≡ true → m ≡ false) → joined_of (status a m) x ≡ status (a and fits x) (m or misses x)
+status-next : (a m : Bool) (x : Verdict) → (a ≡ true → m ≡ false) → joined_of (Ok (status a m)) x ≡ Ok (status (a and fits x) (m or misses x))
 unfolding ◌and◌ ◌or◌
 status-next true true x h = absurd (false≢true (sym (h refl)))
 status-next true false (Fits b r) h = refl
@@ -38,8 +38,8 @@ none-misses (Misses ∷ vs) e = absurd (false≢true (and_parts e).0)
 none-misses (Open ∷ vs) e = absurd (false≢true (and_parts e).0)
 
 -- one row more
-pub overall-next : (vs : List Verdict) (v : Verdict) → joined_of (overall vs) v ≡ overall (vs ++ (v ∷ []))
+pub overall-next : (vs : List Verdict) (v : Verdict) → joined_of (Ok (overall vs)) v ≡ Ok (overall (vs ++ (v ∷ [])))
 overall-next vs v =
     status-next (all fits vs) (any misses vs) v (none-misses vs)
-    ∙ ap (λ b. status b (any misses vs or misses v)) (sym (all_snoc fits vs v))
-    ∙ ap (status (all fits (vs ++ (v ∷ [])))) (sym (any_snoc misses vs v))
+    ∙ ap (λ b. Ok (status b (any misses vs or misses v))) (sym (all_snoc fits vs v))
+    ∙ ap (λ b. Ok (status (all fits (vs ++ (v ∷ []))) b)) (sym (any_snoc misses vs v))

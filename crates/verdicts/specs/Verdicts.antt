@@ -1,25 +1,25 @@
 -- What is said of a row and of a table: document 01, 'The figures'.
-use Rattle.std.specs.Prelude.{Bool, true, false, List, ℕ, leb, if◌then◌else◌}
+use Rattle.std.specs.Prelude.{Result, Ok, Err, Bool, true, false, List, ℕ, leb, Option as RustOption, Some, None, if◌then◌else◌}
 use Rattle.std.proofs.Math.Option.{Option, none, some}
 use Rattle.words.specs.Lists.{all, any}
+use Rattle.refusals.specs.declared.Refusal.{Refusal}
 use Rattle.ticks.specs.Ticks.{long}
-use Rattle.verdicts.specs.declared.Figure.{Figure}
-use Rattle.verdicts.specs.declared.Figure.TheVariants.{Is, No}
+use Rattle.ticks.specs.declared.Length.{Length}
 use Rattle.verdicts.specs.declared.Bound.TheVariants.{Whole, Split}
 use Rattle.verdicts.specs.declared.Verdict.{Verdict}
 use Rattle.verdicts.specs.declared.Verdict.TheVariants.{Fits, Misses, Open}
 use Rattle.verdicts.specs.declared.TableVerdict.{TableVerdict}
-use Rattle.verdicts.specs.declared.TableVerdict.TheVariants.{Fits as TableFits, Misses as TableMisses, Open as TableOpen, Refused as TableRefused}
+use Rattle.verdicts.specs.declared.TableVerdict.TheVariants.{Fits as TableFits, Misses as TableMisses, Open as TableOpen}
 
 -- a figure, where there is one
-abbrev pub figure_of : Option ℕ → Figure
-figure_of none = No
-figure_of (some n) = Is (long n)
+abbrev pub figure_of : Option ℕ → RustOption Length
+figure_of none = None
+figure_of (some n) = Some (long n)
 
 -- and back: the number in a figure
-abbrev pub number_in : Figure → Option ℕ
-number_in No = none
-number_in (Is l) = some l.0
+abbrev pub number_in : RustOption Length → Option ℕ
+number_in None = none
+number_in (Some l) = some l.0
 
 -- a bound above D is no figure
 abbrev pub at_most : ℕ → Option ℕ → Option ℕ
@@ -55,12 +55,12 @@ abbrev pub overall : List Verdict → TableVerdict
 overall vs = if all fits vs then TableFits else if any misses vs then TableMisses else TableOpen
 
 -- the table's verdict with one row more; a refused table stays refused
-abbrev pub joined_of : TableVerdict → Verdict → TableVerdict
-joined_of TableFits (Fits b r) = TableFits
-joined_of TableFits Misses = TableMisses
-joined_of TableFits Open = TableOpen
-joined_of TableOpen (Fits b r) = TableOpen
-joined_of TableOpen Misses = TableMisses
-joined_of TableOpen Open = TableOpen
-joined_of TableMisses v = TableMisses
-joined_of (TableRefused x) v = TableRefused x
+abbrev pub joined_of : Result TableVerdict Refusal → Verdict → Result TableVerdict Refusal
+joined_of (Ok TableFits) (Fits b r) = Ok TableFits
+joined_of (Ok TableFits) Misses = Ok TableMisses
+joined_of (Ok TableFits) Open = Ok TableOpen
+joined_of (Ok TableOpen) (Fits b r) = Ok TableOpen
+joined_of (Ok TableOpen) Misses = Ok TableMisses
+joined_of (Ok TableOpen) Open = Ok TableOpen
+joined_of (Ok TableMisses) v = Ok TableMisses
+joined_of (Err x) v = Err x

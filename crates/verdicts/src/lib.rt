@@ -1,4 +1,4 @@
-// What is said of a row and of a table: a figure, and a verdict made of the bounds.
+// What is said of a row and of a table: a figure, where there is one, and a verdict made of the bounds.
 #![tactic(auto)]
 
 ghost use Rattle.std.specs.Prelude.{◌≡◌};
@@ -6,13 +6,6 @@ ghost use Rattle.verdicts.specs.Verdicts.{figure_of, number_in, at_most, single,
 
 use refusals::Refusal;
 use ticks::Length;
-
-// A figure, where there is one.
-#[derive(Clone, Copy)]
-pub enum Figure {
-    Is(Length),
-    No,
-}
 
 // Which of the two bounds gave a figure.
 #[derive(Clone, Copy)]
@@ -35,73 +28,53 @@ pub enum TableVerdict {
     Fits,
     Misses,
     Open,
-    Refused(Refusal),
 }
 
 // A bound above D is no figure.
-pub fn at_most(d: Length, bound: Figure) -> Figure
+pub fn at_most(d: Length, bound: Option<Length>) -> Option<Length>
     ensures { result ≡ figure_of (at_most d.0 (number_in bound)) }
 {
-    match bound {
-        Figure::No => Figure::No,
-        Figure::Is(b) => {
-            if b.0 <= d.0 {
-                Figure::Is(b)
+    bound.filter(|b| *b <= d)
+}
+
+// The verdict of a row with one C.
+pub fn of_one_stretch(whole: Option<Length>) -> Verdict
+    ensures { result ≡ single (number_in whole) }
+{
+    match whole {
+        None => Verdict::Misses,
+        Some(w) => Verdict::Fits(Bound::Whole, w),
+    }
+}
+
+// The verdict of a waiting row.
+pub fn of_waiting(whole: Option<Length>, split: Option<Length>) -> Verdict
+    ensures { result ≡ lesser (number_in whole) (number_in split) }
+{
+    match (whole, split) {
+        (None, None) => Verdict::Open,
+        (Some(w), None) => Verdict::Fits(Bound::Whole, w),
+        (None, Some(s)) => Verdict::Fits(Bound::Split, s),
+        (Some(w), Some(s)) => {
+            if w <= s {
+                Verdict::Fits(Bound::Whole, w)
             } else {
-                Figure::No
+                Verdict::Fits(Bound::Split, s)
             }
         }
     }
 }
 
-// The verdict of a row with one C.
-pub fn of_one_stretch(whole: Figure) -> Verdict
-    ensures { result ≡ single (number_in whole) }
-{
-    match whole {
-        Figure::No => Verdict::Misses,
-        Figure::Is(w) => Verdict::Fits(Bound::Whole, w),
-    }
-}
-
-// The verdict of a waiting row.
-pub fn of_waiting(whole: Figure, split: Figure) -> Verdict
-    ensures { result ≡ lesser (number_in whole) (number_in split) }
-{
-    match whole {
-        Figure::No => match split {
-            Figure::No => Verdict::Open,
-            Figure::Is(s) => Verdict::Fits(Bound::Split, s),
-        },
-        Figure::Is(w) => match split {
-            Figure::No => Verdict::Fits(Bound::Whole, w),
-            Figure::Is(s) => {
-                if w.0 <= s.0 {
-                    Verdict::Fits(Bound::Whole, w)
-                } else {
-                    Verdict::Fits(Bound::Split, s)
-                }
-            }
-        },
-    }
-}
-
-// The table's verdict with one row more.
-pub fn joined(table: TableVerdict, row: Verdict) -> TableVerdict
+// The table's verdict with one row more; a refused table stays refused.
+pub fn joined(table: Result<TableVerdict, Refusal>, row: Verdict) -> Result<TableVerdict, Refusal>
     ensures { result ≡ joined_of table row }
 {
-    match table {
-        TableVerdict::Fits => match row {
-            Verdict::Fits(_, _) => TableVerdict::Fits,
-            Verdict::Misses => TableVerdict::Misses,
-            Verdict::Open => TableVerdict::Open,
-        },
-        TableVerdict::Open => match row {
-            Verdict::Fits(_, _) => TableVerdict::Open,
-            Verdict::Misses => TableVerdict::Misses,
-            Verdict::Open => TableVerdict::Open,
-        },
-        TableVerdict::Misses => TableVerdict::Misses,
-        TableVerdict::Refused(_) => table,
+    let verdict = table?;
+    match (verdict, row) {
+        (TableVerdict::Misses, _) => Ok(TableVerdict::Misses),
+        (_, Verdict::Misses) => Ok(TableVerdict::Misses),
+        (TableVerdict::Open, _) => Ok(TableVerdict::Open),
+        (TableVerdict::Fits, Verdict::Open) => Ok(TableVerdict::Open),
+        (TableVerdict::Fits, Verdict::Fits(_, _)) => Ok(TableVerdict::Fits),
     }
 }

@@ -1,15 +1,17 @@
 -- Laws of lists, in the form in which a loop goes by them: the element at i, and what is left behind it.
 use Rattle.std.specs.Prelude.{if◌then◌else◌}
 use mathlib.Core.Path.{◌≡◌, refl, sym, ap, ◌∙◌}
-use mathlib.Core.Bool.{Bool, true, false, not, false≢true}
-use mathlib.Core.List.{List, [], ◌∷◌, ◌++◌}
+use mathlib.Core.Bool.{Bool, true, false, not, cond, ◌&&◌, ◌||◌, false≢true}
+use mathlib.Core.List.{List, [], ◌∷◌, ◌++◌, map}
 use Prim.Native.Nat.{ℕ, zero, suc, ◌+◌, ◌-◌, ◌≤◌, ◌<◌}
 use native.Mathlib.Omega.{arith}
 use native.Mathlib.Numerals.{add-one}
 use lib.Dec.{eqb}
 use lib.ListN.{length, take, drop, get_or, replicate, drop_of_length-le, length-append, length-replicate, length-drop, take-append-drop}
+use lib.Pointwise.{pointwise}
 use lib.Seq.{drop-cons, drop-append_seam}
 use borrow.Author.Tests.{eqb-true, eq-eqb, ne_eqb, not-true}
+use Rattle.std.specs.List.{take_while, prefix_len, list_any, list_all}
 use Rattle.words.specs.Choice.{◌and◌, ◌or◌}
 use Rattle.words.specs.Lists.{is_zero, sum, all, any, same, up_to, padded}
 use Rattle.words.proofs.Choice.{and_parts, and_both, or-false, or_nothing}
@@ -115,17 +117,6 @@ pub length-padded : (n : ℕ) (xs : List ℕ) → length xs ≤ n → length (pa
 unfolding padded
 length-padded n xs h = omega (arith, length-append xs (replicate (n - length xs) 0), length-replicate {A = ℕ} (n - length xs) 0)
 
--- two lists of the same length, compared from the front
-
-pub same_at : (xs ys : List ℕ) (i : ℕ) → i < length xs → i < length ys
-    → same (drop i xs) (drop i ys) ≡ (eqb (get_or xs i 0) (get_or ys i 0) and same (drop (i + 1) xs) (drop (i + 1) ys))
-unfolding same
-same_at xs ys i h k = rw (drop-cons xs i 0 h, drop-cons ys i 0 k, add-one)
-
-pub same_end : (xs ys : List ℕ) (i : ℕ) → length xs ≤ i → length ys ≤ i → same (drop i xs) (drop i ys) ≡ true
-unfolding same
-same_end xs ys i h k = rw (drop_of_length-le xs h, drop_of_length-le ys k)
-
 -- a list is its part before the first b, and the rest
 pub up_to-rest : (b : ℕ) (xs : List ℕ) → up_to b xs ++ drop (length (up_to b xs)) xs ≡ xs
 up_to-rest b xs = ap (λ (l : List ℕ). l ++ drop (length (up_to b xs)) xs) (sym (take-up_to b xs)) ∙ take-append-drop (length (up_to b xs)) xs
@@ -203,3 +194,56 @@ any_snoc test (x ∷ xs) y = go (test x) (any_snoc test xs y)
 -- where none of the others passes, the last one decides
 pub any_last : {A : Type 0} (test : A → Bool) (xs : List A) (y : A) → any test xs ≡ false → any test (xs ++ (y ∷ [])) ≡ test y
 any_last test xs y e = any_snoc test xs y ∙ or-false (test y) e
+
+-- our words and the library's, with which the contracts of its iterators are said
+
+pub take_while-up_to : {A : Type 0} (f : A → ℕ) (b : ℕ) (xs : List A) → length (take_while (λ x. not (eqb (f x) b)) xs) ≡ length (up_to b (map f xs))
+unfolding up_to
+take_while-up_to f b [] = refl
+take_while-up_to f b (x ∷ xs) = go (eqb (f x) b) (take_while-up_to f b xs)
+  where
+    go : (t : Bool) → length (take_while (λ x. not (eqb (f x) b)) xs) ≡ length (up_to b (map f xs))
+        → length (take (cond (not t) (1 + prefix_len (λ x. not (eqb (f x) b)) xs) 0) (x ∷ xs)) ≡ length (if t then [] else f x ∷ up_to b (map f xs))
+    go true e = refl
+    go false e =
+        let k : 1 + prefix_len (λ x. not (eqb (f x) b)) xs ≡ suc (prefix_len (λ x. not (eqb (f x) b)) xs) = omega arith in
+        rw k (ap (λ (n : ℕ). suc n) e)
+
+pub any-list_any : {A : Type 0} (test : A → Bool) (xs : List A) → list_any test xs ≡ any test xs
+unfolding any ◌or◌
+any-list_any test [] = refl
+any-list_any test (x ∷ xs) = go (test x) (any-list_any test xs)
+  where
+    go : (t : Bool) → list_any test xs ≡ any test xs → (t || list_any test xs) ≡ (t or any test xs)
+    go true e = refl
+    go false e = e
+
+pub all-list_all : {A : Type 0} (test : A → Bool) (xs : List A) → list_all test xs ≡ all test xs
+unfolding all ◌and◌
+all-list_all test [] = refl
+all-list_all test (x ∷ xs) = go (test x) (all-list_all test xs)
+  where
+    go : (t : Bool) → list_all test xs ≡ all test xs → (t && list_all test xs) ≡ (t and all test xs)
+    go true e = e
+    go false e = refl
+
+-- `same` is what `==` on slices of numbers says
+pub same-pointwise : (xs ys : List ℕ) → pointwise eqb xs ys ≡ same xs ys
+unfolding same ◌and◌
+same-pointwise [] [] = refl
+same-pointwise [] (y ∷ ys) = refl
+same-pointwise (x ∷ xs) [] = refl
+same-pointwise (x ∷ xs) (y ∷ ys) = go (eqb x y) (same-pointwise xs ys)
+  where
+    go : (t : Bool) → pointwise eqb xs ys ≡ same xs ys → (t && pointwise eqb xs ys) ≡ (t and same xs ys)
+    go true e = e
+    go false e = refl
+
+module _ {A : Type 0} (test : A → Bool) where
+  pub any-at : (xs : List A) (i : ℕ) (d : A) → i < length xs → any test (drop i xs) ≡ (test (get_or xs i d) or any test (drop (i + 1) xs))
+  unfolding any
+  any-at xs i d h = rw (drop-cons xs i d, add-one)
+
+  pub any_end : (xs : List A) (i : ℕ) → length xs ≤ i → any test (drop i xs) ≡ false
+  unfolding any
+  any_end xs i h = rw (drop_of_length-le xs h)

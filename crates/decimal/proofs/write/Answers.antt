@@ -1,35 +1,30 @@
--- `decimal::write` meets its contract: the scratch array's end holds the digits, and they are copied out where they fit.
+-- `decimal::write` meets its contract: the digits that are left of the number stand before those written so far.
 use mathlib.Core.Path.{◌≡◌, refl, sym, ap, ◌∙◌}
-use mathlib.Core.List.{List}
-use Prim.Native.Nat.{ℕ, ◌-◌, ◌≤◌, ◌<◌}
+use Prim.Native.Nat.{◌≤◌, ◌<◌}
 use native.Mathlib.Omega.{arith}
-use lib.ListN.{length, take, drop, length-drop}
-use lib.Seq.{take_all}
-use Rattle.words.proofs.Buffer.{placed-fits, placed-short, fitted-fits, fitted_short, copied}
+use lib.ListN.{length}
+use Rattle.words.proofs.Buffer.{placed-fits, placed-short, fitted-fits, fitted_short}
+use Rattle.words.specs.Buffer.{over}
 use Rattle.decimal.specs.Decimal.{digits}
+use Rattle.decimal.proofs.Digits.{ends, digits-ends, digit-moved}
 use Rattle.decimal.proofs.write.Goals as goal
 
--- the digits are what stands in the scratch array from `at` on
-made : (n at : ℕ) (bytes : List ℕ) → at ≤ 20 → length bytes ≡ 20 → drop at bytes ≡ digits n
-    → (length (digits n) ≡ 20 - at) × (take (20 - at) (drop at bytes) ≡ digits n)
-made n at bytes h l e =
-    let k : length (digits n) ≡ 20 - at = ap length (sym e) ∙ simp length-drop (omega arith) in
-    (k, rw e (take_all (20 - at) (digits n) (omega arith)))
-
-pub returns-then-out-at : goal.returns-then-out-at
-returns-then-out-at c =
-    let a = c.args in
-    let b = c.build-made in
-    let m = made a.n b.result.at b.result.bytes b.ensures.0 b.ensures.1 b.ensures.2 in
-    let s : length a.out.now < length (digits a.n) = omega (arith, m.0, c.if-out-at.true) in
+pub returns-then-out-len : goal.returns-then-out-len
+returns-then-out-len c =
+    let s : length c.args.out.now < length (digits c.args.n) = omega (arith, c.width-len.ensures, c.if-out-len.true) in
     (sym (fitted_short _ _ s), sym (placed-short _ _ s))
 
+pub loop-i-init : goal.loop-i-init
+loop-i-init c = rw (c.width-len.ensures, digits-ends c.args.n)
+
+pub loop-i-preserved : goal.loop-i-preserved
+loop-i-preserved c = c.loop-i.invariant ∙ digit-moved c.loop-i.rest c.loop-i.i c.loop-i.out (omega arith) (omega arith)
+
 pub returns : goal.returns
+unfolding over ends
 returns c =
-    let a = c.args in
-    let b = c.build-made in
-    let m = made a.n b.result.at b.result.bytes b.ensures.0 b.ensures.1 b.ensures.2 in
-    let s : length (digits a.n) ≤ length a.out.now = omega (arith, m.0, c.if-out-at.false) in
-    let p = c.copy.ensures in
-    let r : c.copy.result ≡ length (digits a.n) = p.0 ∙ ap length m.1 in
-    (r ∙ sym (fitted-fits _ _ s), p.1 ∙ rw m.1 (copied (digits a.n) a.out.now _ refl) ∙ sym (placed-fits _ _ s))
+    let s : length (digits c.args.n) ≤ length c.args.out.now = omega (arith, c.width-len.ensures, c.if-out-len.false) in
+    let z : c.loop-i.i ≡ 0 = omega arith in (
+      c.width-len.ensures ∙ sym (fitted-fits _ _ s),
+      sym (rw (placed-fits (digits c.args.n) c.args.out.now s, sym c.width-len.ensures) (rw z at c.loop-i.invariant)),
+    )

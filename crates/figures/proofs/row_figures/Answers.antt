@@ -1,8 +1,10 @@
 -- `row_figures` meets its contract.
+use Rattle.std.specs.Prelude.{Ok, Err}
 use Rattle.table.specs.declared.Table.{Table as TableValue}
-use Rattle.refusals.specs.declared.Refusal.TheVariants.{BadTable, NoSuchRow}
+use Rattle.refusals.specs.declared.Refusal.TheVariants.{NoSuchRow}
 use mathlib.Core.Path.{◌≡◌, sym, ap, ◌∙◌}
-use mathlib.Core.Bool.{true, false}
+use mathlib.Core.Bool.{true}
+use mathlib.Core.Logic.{◌⊎◌, inl, inr}
 use Prim.Native.Nat.{ℕ, ◌-◌, ◌≤◌, ◌<◌}
 use native.Mathlib.Omega.{arith}
 use borrow.Author.Tests.{le-leb, lt-leb}
@@ -12,50 +14,35 @@ use Rattle.table.specs.Paper.{Row, row_at}
 use Rattle.table.specs.Value.{table_of, well_formed}
 use Rattle.table.proofs.Used.{len_is, len-most}
 use Rattle.figures.specs.Answers.{figures_of, row_answer}
-use Rattle.figures.specs.declared.Answer.TheVariants.{Row as RowIs, Refused}
 use Rattle.figures.proofs.Tables.{rows_same, row_kept}
 use Rattle.figures.proofs.row_figures.Goals as goal
 
--- the three answers about a well-formed table
-none_below : (v : TableValue) (n : ℕ) → well_formed v ≡ true → n < 1 → row_answer v n ≡ Refused NoSuchRow
+-- the answers about a well-formed table
+no_row : (v : TableValue) (n : ℕ) → well_formed v ≡ true → (n < 1) ⊎ ((1 ≤ n) × (v.len < n)) → row_answer v n ≡ Err NoSuchRow
 unfolding row_answer
-none_below v n ok h = if-true _ _ ok ∙ if-false _ _ (and-false _ (lt-leb 1 n h))
+no_row v n ok (inl h) = if-true _ _ ok ∙ if-false _ _ (and-false _ (lt-leb 1 n h))
+no_row v n ok (inr h) = if-true _ _ ok ∙ if-false _ _ (and-last-false _ (lt-leb n (length (table_of v)) (omega (arith, h.1, len_is v ok))))
 
-none-beyond : (v : TableValue) (n : ℕ) → well_formed v ≡ true → v.len < n → row_answer v n ≡ Refused NoSuchRow
-unfolding row_answer
-none-beyond v n ok h = if-true _ _ ok ∙ if-false _ _ (and-last-false _ (lt-leb n (length (table_of v)) (omega (arith, len_is v ok))))
-
-row-there : (v : TableValue) (n : ℕ) → well_formed v ≡ true → 1 ≤ n → n ≤ v.len → row_answer v n ≡ RowIs (figures_of (row_at (table_of v)) (n - 1))
+row-there : (v : TableValue) (n : ℕ) → well_formed v ≡ true → 1 ≤ n → n ≤ v.len → row_answer v n ≡ Ok (figures_of (row_at (table_of v)) (n - 1))
 unfolding row_answer
 row-there v n ok l h = if-true _ _ ok ∙ if-true _ _ (and_both (le-leb 1 n l) (le-leb n (length (table_of v)) (omega (arith, len_is v ok))))
 
-bad-table : (v : TableValue) (n : ℕ) → well_formed v ≡ false → row_answer v n ≡ Refused BadTable
-unfolding row_answer
-bad-table v n e = if-false _ _ e
+pub figures_at-requires : goal.figures_at-requires
+figures_at-requires c =
+    let ok = sym c.if-not-well_formed.ensures in
+    let h = c.if-t-number.false in
+    (omega (arith, len-most c.args.t ok, h.0, h.1), λ i l. row_kept c.args.t ok i (omega (arith, l, h.0, h.1)))
 
 pub returns-then-not-well_formed : goal.returns-then-not-well_formed
-returns-then-not-well_formed c = sym (bad-table _ _ (sym c.well_formed-2.ensures ∙ c.if-not-well_formed.true))
-
-pub returns-then-number-lt1 : goal.returns-then-number-lt1
-returns-then-number-lt1 c = sym (none_below _ _ (sym c.well_formed-2.ensures ∙ c.if-not-well_formed.false) c.if-number-lt1.true)
+unfolding row_answer
+returns-then-not-well_formed c = sym (if-false _ _ (sym c.if-not-well_formed.ensures))
 
 pub returns-then-t-number : goal.returns-then-t-number
-returns-then-t-number c = sym (none-beyond _ _ (sym c.well_formed-2.ensures ∙ c.if-not-well_formed.false)
-    c.if-t-number.true)
+returns-then-t-number c = sym (no_row _ _ (sym c.if-not-well_formed.ensures) c.if-t-number.either)
 
-pub figures_at-figures-requires : goal.figures_at-figures-requires
-figures_at-figures-requires c =
-    let s = c in
-    let ok = sym c.well_formed-2.ensures ∙ c.if-not-well_formed.false in (
-      omega (arith, len-most s.args.t ok, c.if-t-number.false, c.if-number-lt1.false),
-      λ i h. row_kept s.args.t ok i
-          (omega (arith, h, c.if-t-number.false, c.if-number-lt1.false)),
-    )
-
-pub returns : goal.returns
-returns c =
-    let s = c in
-    let ok = sym c.well_formed-2.ensures
-    ∙ c.if-not-well_formed.false in
-    ap RowIs (c.figures_at-figures.ensures ∙ ap (λ (rows : ℕ → Row). figures_of rows (s.args.number - 1)) (rows_same s.args.t ok))
-    ∙ sym (row-there s.args.t s.args.number ok c.if-number-lt1.false c.if-t-number.false)
+pub returns-else-t-number : goal.returns-else-t-number
+returns-else-t-number c =
+    let ok = sym c.if-not-well_formed.ensures in
+    let h = c.if-t-number.false in
+    ap Ok (c.figures_at.ensures ∙ ap (λ (rows : ℕ → Row). figures_of rows (c.args.number - 1)) (rows_same c.args.t ok))
+    ∙ sym (row-there c.args.t c.args.number ok h.0 h.1)

@@ -1,48 +1,57 @@
--- `work_of` meets its contract: the C so far and those from the next stretch on are all C.
-use mathlib.Core.Path.{◌≡◌}
-use mathlib.Core.List.{List}
-use Prim.Native.Nat.{ℕ, ◌+◌, ◌<◌}
+-- `work_of` meets its contract: the C so far and those from the next one on are all C.
+use mathlib.Core.Path.{◌≡◌, refl}
+use mathlib.Core.List.{List, map}
+use Prim.Native.Nat.{ℕ, ◌+◌, ◌%◌}
 use native.Mathlib.Omega.{arith}
-use lib.ListN.{length, drop, get_or}
-use Rattle.ticks.specs.declared.Length.{Length}
-use Rattle.table.specs.Limits.{most_times}
+use lib.ListN.{drop, get_or}
 use Rattle.table.specs.Paper.{parts, work}
-use Rattle.ticks.specs.Ticks.{long}
-use Rattle.table.proofs.Rows.{time-at, times-within}
+use Rattle.table.proofs.Rows.{time-at}
+use Rattle.ticks.specs.declared.Length.{Length}
+use Rattle.ticks.specs.Ticks.{ticks, long}
 use Rattle.recurrence.proofs.Rows.{work-at, work-end}
-use Rattle.figures.proofs.Values.{work-fits, deadline-safe, time-used}
-use Rattle.figures.proofs.work_of.Invariants.{used}
+use Rattle.figures.proofs.Values.{deadline-safe, kept-size, work_kept, work-fits}
+use Rattle.figures.proofs.work_of.Goals.{then-j-eq0, else-j-eq0}
 use Rattle.figures.proofs.work_of.Goals as goal
 
--- the stretch that is added
-stretch : (ts : List Length) (j : ℕ) → j < length (used ts) → work (parts (drop j (used ts))) ≡ (get_or ts j (long 0)).0 + work (parts (drop (j + 2) (used ts)))
-stretch ts j h = omega (arith, work-at (used ts) j h, time-at ts j, time-used ts j h)
+-- all C from the next stretch on
+abbrev from_next : List Length → ℕ → ℕ
+from_next times j = work (parts (drop (j + j % 2) (map ticks times)))
 
-pub loop-j-init : goal.loop-j-init
-loop-j-init c =
-    let s = c in
-    let v = s.args.row in
-    let l : length v.times ≡ most_times = s.well_formed.0.1.1.1.1.1.0.1.0.1 in
-    let few = times-within v l in
-    (c.count-count.ensures, omega (arith, c.count-count.ensures), l, omega (arith, work-fits v s.requires, deadline-safe v s.requires), omega arith, omega arith)
+-- a C at an even place
+own-place : (times : List Length) (j : ℕ) → j % 2 ≡ 0 → from_next times j ≡ (get_or times j (long 0)).0 + from_next times (j + 1)
+own-place times j e =
+    let a : j + j % 2 ≡ j = omega arith in
+    let b : j + 1 + (j + 1) % 2 ≡ j + 2 = omega arith in
+    rw (a, b) (omega (arith, work-at (map ticks times) j, time-at times j))
 
-pub bounds-times-j : goal.bounds-times-j
-bounds-times-j c = omega (arith, c.loop-j.invariant.1, c.loop-j-test.true)
+-- an S at an odd one
+other-place : (times : List Length) (j : ℕ) → j % 2 ≡ 1 → from_next times j ≡ from_next times (j + 1)
+other-place times j e =
+    let a : j + j % 2 ≡ j + 1 = omega arith in
+    let b : j + 1 + (j + 1) % 2 ≡ j + 1 = omega arith in
+    rw (a, b) refl
 
 pub overflow_add-sum : goal.overflow_add-sum
 overflow_add-sum c =
-    let s = c in
-    let l = c.loop-j in
-    omega (arith, l.invariant.3, l.invariant.5, stretch s.args.row.times l.j (omega (arith, l.invariant.0, c.loop-j-test.true)))
+    let v = c.args.row.now in
+    omega (arith, c.loop-j.invariant, own-place v.times c.loop-j.j c.if-j-eq0.true, work_kept v c.requires, work-fits v c.requires, deadline-safe v c.requires)
 
 pub loop-j-preserved : goal.loop-j-preserved
 loop-j-preserved c =
-    let s = c in
-    let l = c.loop-j in
-    let t = c.loop-j-test.true in
-    (l.invariant.0, l.invariant.1, l.invariant.2, l.invariant.3, omega arith, omega (arith, l.invariant.5, stretch s.args.row.times l.j (omega (arith, l.invariant.0))))
+    let times = c.args.row.now.times in
+    let j = c.loop-j.j in
+    elim c.if-j-eq0.branch [
+      | then-j-eq0 w ↦ omega (arith, c.loop-j.invariant, own-place times j w.if-j-eq0.true, w.sum-is)
+      | else-j-eq0 w ↦ omega (arith, c.loop-j.invariant, other-place times j (omega (arith, w.if-j-eq0.false)), w.sum-is)
+    ]
 
 pub returns : goal.returns
 returns c =
-    let l = c.loop-j in
-    omega (arith, l.invariant.5, work-end (used c.args.row.times) l.j (omega (arith, l.invariant.0, c.loop-j-test.false)))
+    let v = c.args.row.now in
+    let j = c.loop-j.j in
+    omega (
+      arith,
+      c.loop-j.invariant,
+      work-end (map ticks v.times) (j + j % 2) (omega (arith, kept-size v c.requires, c.loop-j-test.false)),
+      work_kept v c.requires,
+    )

@@ -9,5 +9,5 @@ pub loop-at-preserved : goal.loop-at-preserved
 loop-at-preserved g c =
     let from = c.loop-at.at in
     let room = length c.loop-at.buf - from in
-    let joined = take-put_mid from room c.in-Ok.more c.loop-at.buf c.read.new.buf c.loop-at.invariant.0 c.in-Ok.ensures.bound.0 in
-    (search rules, subst (Consumes _ _) joined (Consumes-trans _ _ _ _ _ c.loop-at.invariant.1 c.in-Ok.ensures.bytes.0), search rules)
+    let joined = take-put_mid from room c.in_ok-more.more c.loop-at.buf c.read.new.buf c.loop-at.invariant.0 c.in_ok-more.ensures.bound.0 in
+    (search rules, subst (Consumes _ _) joined (Consumes-trans _ _ _ _ _ c.loop-at.invariant.1 c.in_ok-more.ensures.bytes.0))

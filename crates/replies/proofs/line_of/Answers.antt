@@ -3,15 +3,15 @@ use Rattle.refused.specs.Refused.{refused_line}
 use Rattle.replies.proofs.Laws.{put_whole, put-never-refused}
 use Rattle.replies.proofs.line_of.Goals as goal
 
-pub returns-in-Bytes : goal.returns-in-Bytes
-returns-in-Bytes c =
+pub returns-in-Ok : goal.returns-in-Ok
+returns-in-Ok c =
     let s = c in
     let w = c.write in
-    put_whole (refused_line s.args.why) s.args.out.now _ w.result s.requires w.ensures.0 w.ensures.1 _ c.in-Bytes.is
+    put_whole (refused_line s.args.why) s.args.out.now _ w.result s.requires w.ensures.0 w.ensures.1 _ c.in-Ok.is
 
-pub returns-in-Refused : goal.returns-in-Refused
-returns-in-Refused c =
+pub returns-in-Err : goal.returns-in-Err
+returns-in-Err c =
     let s = c in
     let w = c.write in
     let l = refused_line s.args.why in
-    absurd (put-never-refused l s.args.out.now _ w.result s.requires w.ensures.0 w.ensures.1 _ c.in-Refused.is)
+    absurd (put-never-refused l s.args.out.now _ w.result s.requires w.ensures.0 w.ensures.1 _ c.in-Err.is)

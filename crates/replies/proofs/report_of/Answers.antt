@@ -16,20 +16,20 @@ room c =
     let size : length c.args.out.now ≡ longest_text = c.told-out in
     omega (arith, size, report-room c.args.text.now)
 
-pub returns-in-Bytes : goal.returns-in-Bytes
-returns-in-Bytes c =
+pub returns-in-Ok : goal.returns-in-Ok
+returns-in-Ok c =
     let s = c in
     let w = c.answer in
     let t = answer_text s.args.text.now in
     let d = s.args.out.now in
-    let h = room (goal.at.returns-in-Bytes c).After-answer-arg-1 in
-    let r = replied t d _ _ h (put_whole t d _ w.result h w.ensures.0 w.ensures.1 _ c.in-Bytes.is) in
+    let h = room (goal.at.returns-in-Ok c).After-answer-arg-1 in
+    let r = replied t d _ _ h (put_whole t d _ w.result h w.ensures.0 w.ensures.1 _ c.in-Ok.is) in
     record { value = r.0; front = r.1 }
 
-pub returns-in-Refused : goal.returns-in-Refused
-returns-in-Refused c =
+pub returns-in-Err : goal.returns-in-Err
+returns-in-Err c =
     let s = c in
     let w = c.answer in
     let t = answer_text s.args.text.now in
-    let h = room (goal.at.returns-in-Refused c).After-answer-arg-1 in
-    absurd (put-never-refused t s.args.out.now _ w.result h w.ensures.0 w.ensures.1 _ c.in-Refused.is)
+    let h = room (goal.at.returns-in-Err c).After-answer-arg-1 in
+    absurd (put-never-refused t s.args.out.now _ w.result h w.ensures.0 w.ensures.1 _ c.in-Err.is)

@@ -1,5 +1,5 @@
 -- `text_of` meets its contract: every answer has room.
-use mathlib.Core.Path.{◌≡◌, ap}
+use mathlib.Core.Path.{◌≡◌, sym, ap, ◌∙◌}
 use Prim.Native.Nat.{◌≤◌}
 use native.Mathlib.Omega.{arith}
 use lib.ListN.{length}
@@ -17,29 +17,25 @@ room s size = omega (arith, size, text-room s.args.text.now)
 pub table_text-requires : goal.table_text-requires
 table_text-requires c =
     let s = (goal.at.table_text-requires c).Start in
-    let q = c.read-reading in
-    let p = text-accepted s.args.text.now q.result q.ensures c.in-Accepted.is in
+    let p = text-accepted s.args.text.now _ (sym c.in-Ok.is ∙ c.read.ensures) in
     (p.0, omega (arith, room s c.told-out, ap length p.1))
 
 pub line_of-requires : goal.line_of-requires
 line_of-requires c =
     let s = (goal.at.line_of-requires c).Start in
-    let q = c.read-reading in
-    let e = text-refused s.args.text.now q.result _ q.ensures c.in-Refused.is in
+    let e = text-refused s.args.text.now _ (sym c.in-Err.is ∙ c.read.ensures) in
     omega (arith, room s c.told-out, ap length e)
 
-pub returns-in-Accepted : goal.returns-in-Accepted
-returns-in-Accepted c =
-    let s = (goal.at.returns-in-Accepted c).Start in
-    let q = c.read-reading in
-    let e = (text-accepted s.args.text.now q.result q.ensures c.in-Accepted.is).1 in
+pub returns-in-Ok : goal.returns-in-Ok
+returns-in-Ok c =
+    let s = (goal.at.returns-in-Ok c).Start in
+    let e = (text-accepted s.args.text.now _ (sym c.in-Ok.is ∙ c.read.ensures)).1 in
     let r = replied (text_answer s.args.text.now) s.args.out.now _ _ (room s c.told-out) (rw e c.table_text.ensures) in
     record { value = r.0; front = r.1 }
 
-pub returns-in-Refused : goal.returns-in-Refused
-returns-in-Refused c =
-    let s = (goal.at.returns-in-Refused c).Start in
-    let q = c.read-reading in
-    let e = text-refused s.args.text.now q.result _ q.ensures c.in-Refused.is in
+pub returns-in-Err : goal.returns-in-Err
+returns-in-Err c =
+    let s = (goal.at.returns-in-Err c).Start in
+    let e = text-refused s.args.text.now _ (sym c.in-Err.is ∙ c.read.ensures) in
     let r = replied (text_answer s.args.text.now) s.args.out.now _ _ (room s c.told-out) (rw e c.line_of.ensures) in
     record { value = r.0; front = r.1 }

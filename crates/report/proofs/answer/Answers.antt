@@ -1,12 +1,13 @@
 -- `answer` meets its contract.
-use Rattle.report.proofs.Tables.{read-accepted, read-refused}
+use mathlib.Core.Path.{sym, ◌∙◌}
+use Rattle.report.proofs.Tables.{reported-right, read-accepted, read-refused}
 use Rattle.report.proofs.answer.Goals as goal
 
-pub write_report-requires : goal.write_report-requires
-write_report-requires c = (read-accepted c.args.text.now c.read-reading.result c.read-reading.ensures c.in-Accepted.is).0
+pub returns-in-Ok : goal.returns-in-Ok
+returns-in-Ok c =
+    let a = read-accepted c.args.text.now _ (sym c.in-Ok.is ∙ c.read.ensures) in
+    let w = reported-right _ c.args.out.now a.0 in
+    rw a.1 (c.write.ensures.0 ∙ w.0, c.write.ensures.1 ∙ w.1)
 
-pub returns-in-Accepted : goal.returns-in-Accepted
-returns-in-Accepted c = rw (read-accepted c.args.text.now c.read-reading.result c.read-reading.ensures c.in-Accepted.is).1 c.write_report.ensures
-
-pub returns-in-Refused : goal.returns-in-Refused
-returns-in-Refused c = rw (read-refused c.args.text.now c.read-reading.result _ c.read-reading.ensures c.in-Refused.is) c.write.ensures
+pub returns-in-Err : goal.returns-in-Err
+returns-in-Err c = rw (read-refused c.args.text.now _ (sym c.in-Err.is ∙ c.read.ensures)) c.write-in-Err.ensures

@@ -1,14 +1,19 @@
 -- `right_row` meets its contract: its tests joined are `right_value`.
 use mathlib.Core.Path.{◌≡◌, sym, ap, ◌∙◌}
+use mathlib.Core.Bool.{Bool, not}
 use Prim.Native.Nat.{ℕ, ◌≤◌}
+use lib.Dec.{leb}
+use Rattle.words.specs.Choice.{◌and◌}
 use native.Mathlib.Omega.{arith}
 use lib.ListN.{length}
 use lib.Seq.{length-take-le}
 use Rattle.table.specs.Limits.{longest_name, most_times}
-use Rattle.table.specs.Paper.{right_name}
+use Rattle.table.specs.Paper.{right_name, right_number}
 use Rattle.table.specs.Value.{row_of}
 use Rattle.table.proofs.Rows.{name-within, times-within, name-front}
-use Rattle.rules.proofs.Rows.{name_back, row-tests}
+use Rattle.words.specs.Lists.{is_zero}
+use Rattle.words.proofs.Lists.{all-list_all}
+use Rattle.rules.proofs.Rows.{times-first, times-rest, name_back, row-tests}
 use borrow.Author.Rules.{rules}
 use Rattle.rules.proofs.right_row.Goals.{Start}
 use Rattle.rules.proofs.right_row.Goals as goal
@@ -25,9 +30,6 @@ name-fits s n e = omega (arith, name-within s.args.row (name-size s))
 
 times-fit : (s : Start) (n : ℕ) → n ≡ length (row_of s.args.row).times → n ≤ most_times
 times-fit s n e = omega (arith, times-within s.args.row (times-size s))
-
-pub right_times-requires : goal.right_times-requires
-right_times-requires c = times-fit (goal.at.right_times-requires c).Start _ c.count-count.ensures
 
 pub slice_bounds-name-end : goal.slice_bounds-name-end
 slice_bounds-name-end c =
@@ -58,9 +60,35 @@ slice_bounds-zero_bytes-end c =
     = omega (arith, name-size (goal.at.slice_bounds-zero_bytes-end c).Start) in
     h
 
-pub zero_times-requires : goal.zero_times-requires
-zero_times-requires c
-    = times-fit (goal.at.zero_times-requires c).Start _ c.count-count.ensures
+pub slice_bounds-times-end : goal.slice_bounds-times-end
+slice_bounds-times-end c =
+    let h = times-fit (goal.at.slice_bounds-times-end c).Start _ c.count-count.ensures in
+    let l = times-size (goal.at.slice_bounds-times-end c).Start in
+    omega arith
+
+pub slice_bounds-right_times-end : goal.slice_bounds-right_times-end
+slice_bounds-right_times-end c =
+    let h = times-fit (goal.at.slice_bounds-right_times-end c).Start _ c.count-count.ensures in
+    let l = times-size (goal.at.slice_bounds-right_times-end c).Start in
+    sym (length-take-le _ _ (omega arith))
+
+pub offset_bounds-times-count : goal.offset_bounds-times-count
+offset_bounds-times-count c =
+    let h = times-fit (goal.at.offset_bounds-times-count c).Start _ c.count-count.ensures in
+    let l = times-size (goal.at.offset_bounds-times-count c).Start in
+    search rules
+
+pub slice_bounds-zero_times-count : goal.slice_bounds-zero_times-count
+slice_bounds-zero_times-count c =
+    let h = times-fit (goal.at.slice_bounds-zero_times-count c).Start _ c.count-count.ensures in
+    let l = times-size (goal.at.slice_bounds-zero_times-count c).Start in
+    h
+
+pub slice_bounds-zero_times-start : goal.slice_bounds-zero_times-start
+slice_bounds-zero_times-start c =
+    let h = times-fit (goal.at.slice_bounds-zero_times-start c).Start _ c.count-count.ensures in
+    let l = times-size (goal.at.slice_bounds-zero_times-start c).Start in
+    search rules
 
 pub returns : goal.returns
 returns c =
@@ -68,14 +96,15 @@ returns c =
     let n = c.name_len-len in
     let front = c.right_name.ensures
     ∙ ap right_name (name-front s.args.row n.result n.ensures) in
-    let back = c.zero_bytes.ensures ∙ name_back s.args.row n.result (name-size s) n.ensures in
+    let back = c.zero_bytes.ensures ∙ all-list_all is_zero _ ∙ name_back s.args.row n.result (name-size s) n.ensures in
+    let le : c.le.result ≡ leb s.args.row.deadline.0 s.args.row.period.0 = search rules in
     c.both-4.ensures
-    ∙ row-tests s.args.row c.count-count.result c.count-count.ensures c.too_long.ensures c.both-lengths.ensures
-    c.right_times.ensures
+    ∙ row-tests s.args.row c.count-count.result c.count-count.ensures c.too_long.ensures (c.both-lengths.ensures ∙ ap (λ (z : Bool). z and not c.too_long.result) le)
+    (c.right_times.ensures ∙ times-first right_number s.args.row.times c.count-count.result)
     c.both.ensures
     c.right_count.ensures c.both-timed.ensures
     c.right_number-2.ensures
     c.both-2.ensures
     c.right_number.ensures
     c.both-numbers.ensures
-    front c.both-right.ensures c.zero_times.ensures c.both-3.ensures back
+    front c.both-right.ensures (c.zero_times.ensures ∙ times-rest is_zero s.args.row.times c.count-count.result most_times (times-size s)) c.both-3.ensures back

@@ -4,18 +4,19 @@ use mathlib.Core.Path.{ap, ◌∙◌}
 use mathlib.Core.Bool.{Bool}
 use lib.Dec.{eqb}
 use Rattle.words.specs.Choice.{◌and◌}
+use Rattle.words.proofs.Lists.{all-list_all}
+use Rattle.rules.proofs.Rows.{all-times}
 use Rattle.rules.specs.Tests.{unused}
 use Rattle.rules.proofs.unused_row.Goals as goal
 
 pub returns : goal.returns
 unfolding unused
 returns c =
-    let s = c in
-    let a = s.args.row in
+    let a = c.args.row in
     c.both-2.ensures
-    ∙ ap (λ (z : Bool). z and c.both-numbers.result) c.zero_bytes.ensures
+    ∙ ap (λ (z : Bool). z and c.both-numbers.result) (c.zero_bytes.ensures ∙ all-list_all is_zero a.name)
     ∙ ap (λ (z : Bool). all is_zero a.name and z)
     (c.both-numbers.ensures
     ∙ ap (λ (z : Bool). eqb a.period.0 0 and z)
     (c.both.ensures
-    ∙ ap (λ (z : Bool). eqb a.deadline.0 0 and z) c.zero_times.ensures))
+    ∙ ap (λ (z : Bool). eqb a.deadline.0 0 and z) (c.zero_times.ensures ∙ all-times is_zero a.times)))

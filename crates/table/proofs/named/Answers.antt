@@ -1,49 +1,49 @@
 -- `named` meets its contract: the rows that are left decide.
-use mathlib.Core.Path.{◌≡◌, refl, sym, ◌∙◌}
+use mathlib.Core.Path.{◌≡◌, refl, sym, ap, ◌∙◌}
 use mathlib.Core.Bool.{true, false}
-use native.Mathlib.Omega.{arith}
+use mathlib.Core.List.{List}
+use Prim.Native.Nat.{ℕ, min}
 use borrow.Author.Rules.{rules}
-use lib.ListN.{length, get_or}
+use lib.ListN.{length, take, get_or}
+use Rattle.std.proofs.lemmas.List.{take_min}
 use Rattle.words.specs.Lists.{same}
 use Rattle.words.proofs.Choice.{or-true, or-false}
+use Rattle.words.proofs.Lists.{any-at, any_end, same-pointwise}
 use Rattle.table.specs.Limits.{most_rows}
-use Rattle.table.specs.Value.{no_value}
-use Rattle.table.proofs.Rows.{name-in-at, name-in-end}
+use Rattle.table.specs.Value.{name_in, no_value}
+use Rattle.table.specs.declared.Row.{Row}
 use Rattle.table.proofs.named.Goals as goal
 
-pub loop-i-init : goal.loop-i-init
-loop-i-init c =
-    let l : length c.args.rows ≡ most_rows = c.well_formed.0.1.0.1 in
-    (search rules, l, refl)
+-- the slice has the first n rows, all where n is beyond the last
+first_rows : (name : List ℕ) (n m : ℕ) (rows : List Row) → m ≡ min n (length rows) → name_in name (take m rows) ≡ name_in name (take n rows)
+first_rows name n m rows e = ap (name_in name) (rw e (take_min n rows))
 
-pub returns-then-n-i : goal.returns-then-n-i
-returns-then-n-i c =
-    let l = c.loop-i in
-    let a = c.args in
-    sym (l.invariant.2 ∙ name-in-end a.name a.rows a.n l.i (omega (arith, c.if-n-i.true)))
+pub loop-row-init : goal.loop-row-init
+loop-row-init c = refl
 
-pub returns-then-same_name : goal.returns-then-same_name
-returns-then-same_name c =
-    let l = c.loop-i in
+pub returns-then-eq : goal.returns-then-eq
+unfolding name_in
+returns-then-eq c =
+    let l = c.loop-row in
     let a = c.args in
-    let e : same a.name (get_or a.rows l.i no_value).name ≡ true = sym c.same_name.ensures ∙ c.if-same_name.true in
-    sym (l.invariant.2 ∙ name-in-at a.name a.rows a.n l.i c.if-n-i.false
-    (omega (arith, l.invariant.1, c.loop-i-test.true)) ∙ or-true _ e)
+    let s = take c.min.result a.rows.now in
+    let e : same a.name (get_or s l.row-index no_value).name ≡ true = sym (same-pointwise _ _) ∙ sym c.eq.ensures ∙ c.if-eq.true in
+    sym (sym (first_rows a.name a.n c.min.result a.rows.now c.min.ensures) ∙ l.invariant
+    ∙ any-at (λ (v : Row). same a.name v.name) s l.row-index no_value c.loop-row-test.true ∙ or-true _ e)
 
-pub loop-i-preserved : goal.loop-i-preserved
-loop-i-preserved c =
-    let l = c.loop-i in
+pub loop-row-preserved : goal.loop-row-preserved
+unfolding name_in
+loop-row-preserved c =
+    let l = c.loop-row in
     let a = c.args in
-    let e : same a.name (get_or a.rows l.i no_value).name ≡ false = sym c.same_name.ensures ∙ c.if-same_name.false in (
-      search rules,
-      l.invariant.1,
-      l.invariant.2
-          ∙ name-in-at a.name a.rows a.n l.i c.if-n-i.false
-          (omega (arith, l.invariant.1, c.loop-i-test.true)) ∙ or-false _ e,
-    )
+    let s = take c.min.result a.rows.now in
+    let e : same a.name (get_or s l.row-index no_value).name ≡ false = sym (same-pointwise _ _) ∙ sym c.eq.ensures ∙ c.if-eq.false in
+    l.invariant ∙ any-at (λ (v : Row). same a.name v.name) s l.row-index no_value c.loop-row-test.true ∙ or-false _ e
 
 pub returns : goal.returns
+unfolding name_in
 returns c =
-    let l = c.loop-i in
+    let l = c.loop-row in
     let a = c.args in
-    sym (l.invariant.2 ∙ name-in-end a.name a.rows a.n l.i (omega (arith, l.invariant.1, c.loop-i-test.false)))
+    sym (sym (first_rows a.name a.n c.min.result a.rows.now c.min.ensures) ∙ l.invariant
+    ∙ any_end (λ (v : Row). same a.name v.name) (take c.min.result a.rows.now) l.row-index c.loop-row-test.false)

@@ -5,15 +5,12 @@ use native.Mathlib.Omega.{arith}
 use Rattle.text.proofs.find.Goals as goal
 
 pub loop-i-init : goal.loop-i-init
-loop-i-init c = (c.requires, refl)
+loop-i-init c = refl
 
 pub returns-then-bytes-i : goal.returns-then-bytes-i
 returns-then-bytes-i c =
     let a = c.args in
     omega (arith, up_to-here a.byte a.bytes.now c.loop-i.i c.loop-i-test.true c.if-bytes-i.true)
-
-pub loop-i-smaller : goal.loop-i-smaller
-loop-i-smaller c = omega arith
 
 pub loop-i-preserved : goal.loop-i-preserved
 loop-i-preserved c =

@@ -6,10 +6,9 @@ use Prim.Native.Nat.{ℕ, ◌+◌, ◌≤◌}
 use native.Mathlib.Omega.{arith}
 use lib.ListN.{length, length-take, length-drop}
 use borrow.Author.Rules.{rules}
-use Rattle.table.specs.declared.Table.{Table as TableValue}
 use Rattle.refusals.specs.declared.Refusal.{Refusal}
 use Rattle.table.proofs.Rules.{name-length}
-use Rattle.text.specs.declared.Outcome.TheVariants.{Accepted}
+use Rattle.std.specs.Prelude.{Ok}
 use Rattle.text.specs.Split.{fields}
 use Rattle.text.specs.Read.{refused, bad, right_fields, no_row, read_fields, read_text, reading_of}
 use Rattle.text.proofs.Steps.{no_text, long-text, no-line-feed, text-lines}
@@ -18,7 +17,7 @@ use Rattle.table.specs.Value.{row_of}
 use Rattle.text.proofs.Values.{Kept}
 use Rattle.text.specs.Read.{got}
 use Rattle.table.specs.declared.Row.{Row as RowValue}
-use Rattle.text.proofs.read.Goals.{After-find-e, After-find-q, After-loop-p, At-lines, Else-not-right_fields, else-f-eq1+in-Is, then-f-eq1+else-not-right_name}
+use Rattle.text.proofs.read.Goals.{After-find-e, After-find-q, After-loop-p, At-lines, Else-not-right_fields, else-f-eq1+in-Some, then-f-eq1+else-not-right_name}
 use Rattle.text.proofs.read.Goals as goal
 
 pub empty-row-requires : goal.empty-row-requires
@@ -65,13 +64,13 @@ at_row : (e : After-find-e) (row : RowValue) → e.lines.waiting ≡ false → r
 at_row e row only count kept done = record { end = at_end e; only = only; count = count; kept = kept; row = done }
 
 pub returns-then-len-eq0 : goal.returns-then-len-eq0
-returns-then-len-eq0 c = c.refused.ensures ∙ ap reading_of (sym (no_text _ c.if-len-eq0.true))
+returns-then-len-eq0 c = ap reading_of (sym (no_text _ c.if-len-eq0.true))
 
 pub returns-then-len-gt-TEXT : goal.returns-then-len-gt-TEXT
-returns-then-len-gt-TEXT c = c.refused-then-len-gt-TEXT.ensures ∙ ap reading_of (sym (long-text _ c.if-len-eq0.false c.if-len-gt-TEXT.true))
+returns-then-len-gt-TEXT c = ap reading_of (sym (long-text _ c.if-len-eq0.false c.if-len-gt-TEXT.true))
 
 pub returns-then-last-ne-LINE_FEED : goal.returns-then-last-ne-LINE_FEED
-returns-then-last-ne-LINE_FEED c = c.refused-then-last-ne-LINE_FEED.ensures ∙ ap reading_of (sym (no-line-feed _ c.if-len-eq0.false (omega arith) c.if-last-ne-LINE_FEED.true))
+returns-then-last-ne-LINE_FEED c = ap reading_of (sym (no-line-feed _ c.if-len-eq0.false (omega arith) c.if-last-ne-LINE_FEED.true))
 
 pub lines-init : goal.lines-init
 lines-init c = lines-begin _ _ c.empty-table.ensures (text-lines _ c.if-len-eq0.false c.if-len-gt-TEXT.false c.if-last-ne-LINE_FEED.false)
@@ -107,7 +106,7 @@ loop-p-preserved c =
     let a = at_tab (goal.at.loop-p-preserved c).After-find-q in
     elim c.if-f-eq1.branch [
       | then-f-eq1+else-not-right_name w ↦ after-name a w.if-f-eq1.true (sym w.right_name.ensures ∙ w.if-not-right_name.false) _ (w.row-is ∙ rw w.name_bytes-name.ensures)
-      | else-f-eq1+in-Is w ↦ after-number a w.in-Is.v w.if-f-eq1.false (sym w.in-Is.ensures) _ (w.row-is ∙ w.with_number-row.ensures)
+      | else-f-eq1+in-Some w ↦ after-number a w.in-Some.v w.if-f-eq1.false (sym w.in-Some.ensures) _ (w.row-is ∙ w.with_number-row.ensures)
     ]
 
 pub overflow_add-at : goal.overflow_add-at
@@ -122,33 +121,33 @@ lines-preserved c = rw c.waits-waiting.ensures (after-row (at_row (goal.at.lines
 pub returns-then-len-at : goal.returns-then-len-at
 returns-then-len-at c =
     let i = c.lines.invariant in
-    ap (λ (t : TableValue). record { outcome = Accepted; table = t }) i.kept ∙ ap reading_of (sym (all_read i c.if-len-at.true))
+    ap Ok i.kept ∙ ap reading_of (sym (all_read i c.if-len-at.true))
 
 pub returns-then-n-eq-ROWS : goal.returns-then-n-eq-ROWS
-returns-then-n-eq-ROWS c = c.refused-answer.ensures ∙ ap reading_of (sym (refused-many c.lines.invariant c.if-len-at.false c.if-n-eq-ROWS.true))
+returns-then-n-eq-ROWS c = ap reading_of (sym (refused-many c.lines.invariant c.if-len-at.false c.if-n-eq-ROWS.true))
 
 pub returns-then-waiting : goal.returns-then-waiting
 returns-then-waiting c =
     let l = c.lines in
     let a : AtEnd (text_l (goal.at.returns-then-waiting c).At-lines) l.table l.waiting l.at _ = record { line = l.invariant; here = c.if-len-at.false; room = c.if-n-eq-ROWS.false; found = refl } in
-    c.refused-answer-then-waiting.ensures ∙ ap reading_of (sym (refused-waiting a c.if-waiting.true))
+    ap reading_of (sym (refused-waiting a c.if-waiting.true))
 
 pub returns-then-not-right_fields : goal.returns-then-not-right_fields
 returns-then-not-right_fields c =
     let k : right_fields (length (fields (line_f (goal.at.returns-then-not-right_fields c).After-find-e))) ≡ false = ap right_fields (sym c.count_fields-k.ensures) ∙ sym c.right_fields.ensures ∙ c.if-not-right_fields.true in
-    c.refused-answer-then-not-right_fields.ensures ∙ ap reading_of (sym (refused-count (at_end (goal.at.returns-then-not-right_fields c).After-find-e) c.if-waiting.false k))
+    ap reading_of (sym (refused-count (at_end (goal.at.returns-then-not-right_fields c).After-find-e) c.if-waiting.false k))
 
 pub returns-then-not-right_name : goal.returns-then-not-right_name
-returns-then-not-right_name c = c.refused-answer-then-not-right_name.ensures ∙ ap reading_of (sym (bad-field (goal.at.returns-then-not-right_name c).After-find-q _ (refused-name (at_tab (goal.at.returns-then-not-right_name c).After-find-q) c.if-f-eq1.true (sym c.right_name.ensures ∙ c.if-not-right_name.true))))
+returns-then-not-right_name c = ap reading_of (sym (bad-field (goal.at.returns-then-not-right_name c).After-find-q _ (refused-name (at_tab (goal.at.returns-then-not-right_name c).After-find-q) c.if-f-eq1.true (sym c.right_name.ensures ∙ c.if-not-right_name.true))))
 
-pub returns-in-No : goal.returns-in-No
-returns-in-No c = c.refused-answer-in-No.ensures ∙ ap reading_of (sym (bad-field (goal.at.returns-in-No c).After-find-q _ (refused-number (at_tab (goal.at.returns-in-No c).After-find-q) c.if-f-eq1.false (sym c.read.ensures ∙ c.in-No.is))))
+pub returns-in-None : goal.returns-in-None
+returns-in-None c = ap reading_of (sym (bad-field (goal.at.returns-in-None c).After-find-q _ (refused-number (at_tab (goal.at.returns-in-None c).After-find-q) c.if-f-eq1.false (sym c.read.ensures ∙ c.in-None.is))))
 
 pub returns-then-row : goal.returns-then-row
-returns-then-row c = c.refused-answer-then-row.ensures ∙ ap reading_of (sym (refused-late (at_row (goal.at.returns-then-row c).After-find-e c.loop-p.row c.if-waiting.false (counted (goal.at.returns-then-row c).Else-not-right_fields) c.loop-p.invariant.kept (fields-done c.loop-p.invariant c.loop-p-test.false)) c.if-row.true))
+returns-then-row c = ap reading_of (sym (refused-late (at_row (goal.at.returns-then-row c).After-find-e c.loop-p.row c.if-waiting.false (counted (goal.at.returns-then-row c).Else-not-right_fields) c.loop-p.invariant.kept (fields-done c.loop-p.invariant c.loop-p-test.false)) c.if-row.true))
 
 pub returns-then-too_long : goal.returns-then-too_long
-returns-then-too_long c = c.refused-answer-then-too_long.ensures ∙ ap reading_of (sym (refused-long (at_row (goal.at.returns-then-too_long c).After-find-e c.loop-p.row c.if-waiting.false (counted (goal.at.returns-then-too_long c).Else-not-right_fields) c.loop-p.invariant.kept (fields-done c.loop-p.invariant c.loop-p-test.false)) c.if-row.false (sym c.too_long.ensures ∙ c.if-too_long.true)))
+returns-then-too_long c = ap reading_of (sym (refused-long (at_row (goal.at.returns-then-too_long c).After-find-e c.loop-p.row c.if-waiting.false (counted (goal.at.returns-then-too_long c).Else-not-right_fields) c.loop-p.invariant.kept (fields-done c.loop-p.invariant c.loop-p-test.false)) c.if-row.false (sym c.too_long.ensures ∙ c.if-too_long.true)))
 
 pub returns-then-named : goal.returns-then-named
-returns-then-named c = c.refused-answer-then-named.ensures ∙ ap reading_of (sym (refused-taken (at_row (goal.at.returns-then-named c).After-find-e c.loop-p.row c.if-waiting.false (counted (goal.at.returns-then-named c).Else-not-right_fields) c.loop-p.invariant.kept (fields-done c.loop-p.invariant c.loop-p-test.false)) c.if-row.false (sym c.too_long.ensures ∙ c.if-too_long.false) (sym c.named.ensures ∙ c.if-named.true)))
+returns-then-named c = ap reading_of (sym (refused-taken (at_row (goal.at.returns-then-named c).After-find-e c.loop-p.row c.if-waiting.false (counted (goal.at.returns-then-named c).Else-not-right_fields) c.loop-p.invariant.kept (fields-done c.loop-p.invariant c.loop-p-test.false)) c.if-row.false (sym c.too_long.ensures ∙ c.if-too_long.false) (sym c.named.ensures ∙ c.if-named.true)))

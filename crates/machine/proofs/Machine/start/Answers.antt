@@ -1,31 +1,16 @@
 -- `Machine::start` meets its contract: each cell is that of its row's first job.
-use mathlib.Core.Path.{refl, ◌∙◌}
-use mathlib.Core.List.{[]}
+use mathlib.Core.Path.{◌∙◌}
 use native.Mathlib.Omega.{arith}
-use borrow.Author.Rules.{rules}
 use lib.ListN.{length-set}
-use Rattle.table.specs.Limits.{most_rows}
-use Rattle.machine.specs.Tick.{cell_of, start_of}
 use Rattle.ticks.specs.Ticks.{instant}
-use Rattle.words.proofs.Filled.{filled_next, filled-all}
+use Rattle.table.specs.Limits.{most_rows}
+use Rattle.table.specs.Value.{no_value}
+use Rattle.machine.specs.Tick.{cell_of, no_cell}
+use Rattle.words.proofs.Filled.{filled_next}
 use Rattle.machine.proofs.Machine.start.Goals as goal
 
-pub loop-i-init : goal.loop-i-init
-loop-i-init c = (omega arith, refl, refl)
-
 pub loop-i-preserved : goal.loop-i-preserved
-loop-i-preserved c =
-    let l = c.loop-i in
-    let z = c in (
-      search rules,
-      length-set l.cells l.i _ ∙ l.invariant.1,
-      filled_next cell_of (cell_of []) z.args.plan.now most_rows l.i [] l.cells _ (omega (arith, z.requires)) (omega arith) l.invariant.2 refl,
-    )
-
-pub returns : goal.returns
-unfolding start_of
-returns c =
-    let l = c.loop-i in
-    let z = c in
-    let e = filled-all cell_of (cell_of []) z.args.plan.now most_rows l.i l.cells z.requires (omega arith) l.invariant.2 in
-    λ j. record { now = instant 0; ran = z.args.n; cells = e j }
+loop-i-preserved c = (
+  length-set _ _ _ ∙ c.loop-i.invariant.0,
+  filled_next (cell_of (instant 0)) no_cell c.args.rows.now most_rows c.loop-i.i no_value c.loop-i.cells _ c.loop-i-test.true (omega arith) c.loop-i.invariant.1 c.new.ensures,
+)

@@ -1,4 +1,0 @@
-use Rattle.ticks.proofs.Instant.plus.Goals as goal
-
-pub returns : goal.returns
-returns c = λ i. record { 0 = c.sum.ensures i }
