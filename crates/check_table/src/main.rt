@@ -3,6 +3,7 @@
 
 fn main(rt: HostRuntime) {
     let mut stderr = rt.stderr();
+    // Fixed memory, as everywhere here: a buffer, and how much of it is used.
     let mut text = [0u8; replies::INPUT];
     let mut out = [0u8; replies::LONGEST];
     // Whatever fails, standard error says it, and the program ends with 0.

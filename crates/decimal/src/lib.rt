@@ -36,6 +36,7 @@ pub fn read(bytes: &[u8], lo: u64, hi: u64) -> Option<u64>
 pub fn width(n: u64) -> usize
     ensures { result ≡ length (digits n) }
 {
+    // No index is counted here: what is left of the number decides, and a `for` would need the count that is sought.
     let mut w: usize = 1;
     let mut rest = n;
     while 10 <= rest {
@@ -46,6 +47,7 @@ pub fn width(n: u64) -> usize
 }
 
 // Writes the digits of n at the front of out and answers how many there are; where out is too short for all of them, 0, and out stays as it was.
+// A count and no Option: callers add it to their place in the buffer, which an Option would not make plainer.
 pub fn write(n: u64, out: &mut [u8]) -> usize
     ensures { (result ≡ fitted (digits n) out.old) × (out.new ≡ placed (digits n) out.old) }
 {

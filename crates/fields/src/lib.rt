@@ -1,4 +1,5 @@
 // Fields in a lent buffer. Each is written with the tab that parts it from the field before it, whole or not at all.
+// The answers are counts and no Option, as `decimal::write` has it: a line's writer adds them up.
 #![tactic(auto)]
 
 ghost use Rattle.std.specs.Prelude.{◌≡◌, ◌∷◌};

@@ -11,18 +11,21 @@ const DIGITS: usize = 20;
 
 // The number of ticks that the first argument says; none where that has more bytes than the longest number.
 fn ticks<V: Env>(env: &V) -> Option<u64> {
+    // Fixed memory, as everywhere here: a buffer, and how much of it is used.
     let mut digits = [0u8; DIGITS];
     let len = env.arg(1, &mut digits).ok()?;
     decimal::read(&digits[..len], 0, u64::MAX)
 }
 
-// Reads a text, and writes its full run.
+// Reads a text, and writes its full run. What it has in common with `check_table` is no function: that would take a closure, and with it a
+// `requires`, which no public function but `buffers::copy` has.
 fn run<R: Read, W: Write, E: Write>(
     stdin: &mut R,
     stdout: &mut W,
     stderr: &mut E,
     ticks: u64,
 ) -> io::Result<()> {
+    // Fixed memory, as above.
     let mut text = [0u8; replies::INPUT];
     let mut out = [0u8; replies::LONGEST];
     match input::read_whole(stdin, &mut text) {

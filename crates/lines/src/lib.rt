@@ -1,7 +1,7 @@
 // Lines of fields, put at the front of a lent buffer: all of them, or nothing.
 #![tactic(auto)]
 
-ghost use Rattle.std.specs.Prelude.{◌≡◌, List, [], ◌∷◌, ℕ, ◌≤◌, ◌<◌, map, length, take, get_or, not, take_while, nat_eq};
+ghost use Rattle.std.specs.Prelude.{◌≡◌, List, [], ◌∷◌, ℕ, ◌≤◌, ◌<◌, map, length, take, get_or};
 ghost use Rattle.words.specs.Lists.{up_to};
 ghost use Rattle.words.specs.Buffer.{over, placed, fitted};
 ghost use Rattle.fields.specs.Fields.{tab, line, joined};
@@ -104,18 +104,11 @@ impl Line {
         }
     }
 
-    // How many bytes the first field has.
-    fn head_len(self) -> usize
-        ensures { result ≡ length (take_while (λ b. not (nat_eq b 0)) self.head) }
-    {
-        self.head.iter().take_while(|b| **b != 0).count()
-    }
-
     // How many bytes a line has.
     fn len(self) -> usize
         ensures { result ≡ length (line_of self) }
     {
-        let mut len = self.head_len();
+        let mut len = buffers::used(&self.head, 0);
         for field in &self.fields {
             if let Some(f) = field {
                 len += 1 + f.len();
@@ -129,7 +122,7 @@ impl Line {
         requires { length (line_of self) ≤ length out.old }
         ensures { (result ≡ length (line_of self)) × (out.new ≡ over (line_of self) out.old) }
     {
-        let len = self.head_len();
+        let len = buffers::used(&self.head, 0);
         let mut at = buffers::copy(&self.head[..len], out);
         for field in &self.fields {
             if let Some(f) = field {

@@ -82,7 +82,7 @@ impl Cell {
 fn highest(cells: &[Cell], now: Instant) -> Option<usize>
     ensures { result ≡ highest now cells.now }
 {
-    cells.iter().position(|cell| cell.ready.0 <= now.0)
+    cells.iter().position(|cell| cell.ready <= now)
 }
 
 // The state between two ticks. What never changes stands in the rows and is lent to each tick, so that the state, which is handed on in each tick, stays small.

@@ -18,6 +18,7 @@ use ticks::Instant;
 const SHIFT: u64 = 65_536;
 
 // Puts the report of a text or the line of its refusal at the front of out, and answers how many bytes it has; 0, and out is unchanged, where out is too short.
+// 0 is what the C interface has for 22.
 pub fn musselpath_report(text: &[u8], out: &mut [u8]) -> u64
     ensures { (result ≡ fitted (answer_text text.now) out.old) × (out.new ≡ placed (answer_text text.now) out.old) }
 {
@@ -27,7 +28,7 @@ pub fn musselpath_report(text: &[u8], out: &mut [u8]) -> u64
     }
 }
 
-// A refusal in one number: its number, its line shifted once, its field shifted twice.
+// A refusal in one number, for the C interface: its number, its line shifted once, its field shifted twice.
 fn pack(why: Refusal) -> u64
     requires { (line_of why ≤ shift) × (field_of why ≤ shift) }
     ensures { result ≡ packed why }

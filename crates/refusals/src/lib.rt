@@ -24,6 +24,7 @@ pub enum Refusal {
     ManyTicks,
 }
 
+// Three tables written out, and no derive: document 01 gives numbers, lines and fields that follow no order of the cases.
 impl Refusal {
     pub fn number(self) -> u64
         ensures { result ≡ number_of self }

@@ -8,7 +8,7 @@ use native.Mathlib.Decide.{dec_le}
 use lib.ListN.{length, take, drop, length-drop}
 use lib.Seq.{length-take-le, take_all}
 use borrow.Author.Tests.{lt-ltb, le-ltb}
-use Rattle.std.specs.Prelude.{Result, Ok, Err}
+use Rattle.std.specs.Prelude.{Some, None, Result, Ok, Err}
 use Rattle.words.specs.Buffer.{over, placed}
 use Rattle.words.proofs.Buffer.{over-nil, length_over, placed-fits}
 use Rattle.words.proofs.Choice.{if-true, if-false}
@@ -95,13 +95,13 @@ text-refused s x e = ap text_to (reading-refused s x e)
 
 -- an item of ticks and a text
 
-pub item-short : (s d : List ℕ) → length s < 4 → Replied (item_answer s) d d 0
+pub item-short : (s : List ℕ) → length s < 4 → item_answer s ≡ None
 unfolding item_answer
-item-short s d h = rw (lt-ltb (length s) 4 h) (replied [] d d 0 (omega arith) (refl, sym (over-nil d)))
+item-short s h = if-true _ _ (lt-ltb (length s) 4 h)
 
-pub item-whole : (s : List ℕ) (n : ℕ) → 4 ≤ length s → n ≡ ticks_in s → item_answer s ≡ run_answer (take (length s - 4) (drop 4 s)) n
+pub item-whole : (s : List ℕ) (n : ℕ) → 4 ≤ length s → n ≡ ticks_in s → item_answer s ≡ Some (run_answer (take (length s - 4) (drop 4 s)) n)
 unfolding item_answer
 item-whole s n h e =
     if-false _ _ (le-ltb (length s) 4 h)
-    ∙ ap (λ (t : List ℕ). run_answer t (ticks_in s)) (sym (take_all (length s - 4) (drop 4 s) (simp length-drop (omega arith))))
-    ∙ ap (run_answer (take (length s - 4) (drop 4 s))) (sym e)
+    ∙ ap (λ (t : List ℕ). Some (run_answer t (ticks_in s))) (sym (take_all (length s - 4) (drop 4 s) (simp length-drop (omega arith))))
+    ∙ ap (λ (m : ℕ). Some (run_answer (take (length s - 4) (drop 4 s)) m)) (sym e)

@@ -1,5 +1,6 @@
 -- What the programs answer: the bytes of each whole answer.
-use Rattle.std.specs.Prelude.{◌≡◌, List, [], ℕ, ◌+◌, ◌*◌, ◌≤◌, ltb, length, take, drop, get_or, if◌then◌else◌}
+use Rattle.std.specs.Prelude.{Option, Some, None, ◌≡◌, List, ℕ, ◌+◌, ◌*◌, ◌≤◌, ltb, length, take, drop, get_or, if◌then◌else◌}
+use Rattle.words.specs.Buffer.{over}
 use Rattle.refusals.specs.declared.Refusal.TheVariants.{ManyTicks}
 use Rattle.table.specs.Limits.{most_ticks}
 use Rattle.text.specs.Read.{Answer, accepted, refused, read_text}
@@ -33,14 +34,19 @@ abbrev pub ticks_in : List ℕ → ℕ
 ticks_in s = ((get_or s 0 0 * 256 + get_or s 1 0) * 256 + get_or s 2 0) * 256 + get_or s 3 0
 
 -- the answer to an item of ticks and a text; none to an item that has no room for the ticks
-unfoldable pub item_answer : List ℕ → List ℕ
-item_answer s = if ltb (length s) 4 then [] else run_answer (drop 4 s) (ticks_in s)
+unfoldable pub item_answer : List ℕ → Option (List ℕ)
+item_answer s = if ltb (length s) 4 then None else Some (run_answer (drop 4 s) (ticks_in s))
 
 -- the answer to an item of a stream
-abbrev pub reply_to : Kind → List ℕ → List ℕ
-reply_to Report s = answer_text s
-reply_to Text s = text_answer s
+abbrev pub reply_to : Kind → List ℕ → Option (List ℕ)
+reply_to Report s = Some (answer_text s)
+reply_to Text s = Some (text_answer s)
 reply_to Run s = item_answer s
+
+-- the buffer afterwards: unchanged where there is no answer
+abbrev pub left_by : Option (List ℕ) → List ℕ → List ℕ
+left_by None d = d
+left_by (Some bs) d = over bs d
 
 -- n bytes stand at the front of xs: it follows from what a reply is, and lets a program lend that front
 abbrev pub Front : ℕ → List ℕ → Type 0

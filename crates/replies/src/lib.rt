@@ -1,13 +1,13 @@
 // What the programs answer, put at the front of a buffer in which every answer has room.
 #![tactic(auto)]
 
-ghost use Rattle.std.specs.Prelude.{◌≡◌, true, ◌≤◌, ◌<◌, length};
+ghost use Rattle.std.specs.Prelude.{option_map, IfSome, ◌≡◌, true, ◌≤◌, ◌<◌, length};
 ghost use Rattle.words.specs.Buffer.{over};
 ghost use Rattle.table.specs.Value.{table_of, well_formed};
 ghost use Rattle.text.specs.Write.{table_text};
 ghost use Rattle.refused.specs.Refused.{refused_line};
 ghost use Rattle.report.specs.Report.{answer_text};
-ghost use Rattle.replies.specs.Replies.{run_answer, text_answer, ticks_in, item_answer, reply_to, Front};
+ghost use Rattle.replies.specs.Replies.{run_answer, text_answer, ticks_in, item_answer, reply_to, left_by, Front};
 
 use refusals::Refusal;
 use table::Table;
@@ -95,26 +95,27 @@ fn ticks_of(item: &[u8]) -> u64
     u64::from(u32::from_be_bytes([item[0], item[1], item[2], item[3]]))
 }
 
-// The full run of an item of ticks and a text; nothing where the item has no room for the ticks.
-fn item_run(item: &[u8], out: &mut [u8; LONGEST]) -> usize
-    ensures value { (result ≡ length (item_answer item.now)) × (out.new ≡ over (item_answer item.now) out.old) }
-    ensures front { Front result out.new }
+// The full run of an item of ticks and a text; none where the item has no room for the ticks.
+fn item_run(item: &[u8], out: &mut [u8; LONGEST]) -> Option<usize>
+    ensures value { (result ≡ option_map length (item_answer item.now)) × (out.new ≡ left_by (item_answer item.now) out.old) }
+    ensures front { IfSome result (λ n. Front n out.new) }
 {
     if item.len() < TICKS {
-        return 0;
+        return None;
     }
     let ticks = ticks_of(item);
-    run_of(&item[TICKS..], ticks, out)
+    Some(run_of(&item[TICKS..], ticks, out))
 }
 
-// The answer to an item of a stream; nothing to one that is none.
-pub fn reply(kind: Kind, item: &[u8], out: &mut [u8; LONGEST]) -> usize
-    ensures value { (result ≡ length (reply_to kind item.now)) × (out.new ≡ over (reply_to kind item.now) out.old) }
-    ensures front { Front result out.new }
+// The answer to an item of a stream; none to one that has none.
+pub fn reply(kind: Kind, item: &[u8], out: &mut [u8; LONGEST]) -> Option<usize>
+    ensures value { (result ≡ option_map length (reply_to kind item.now)) × (out.new ≡ left_by (reply_to kind item.now) out.old) }
+    ensures front { IfSome result (λ n. Front n out.new) }
 {
+    // A switch and no closure: the wrong versions `meaning_text_for_report` and `item_of_no_tick` are about this function's kinds.
     match kind {
-        Kind::Report => report_of(item, out),
-        Kind::Text => text_of(item, out),
+        Kind::Report => Some(report_of(item, out)),
+        Kind::Text => Some(text_of(item, out)),
         Kind::Run => item_run(item, out),
     }
 }

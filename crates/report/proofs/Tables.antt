@@ -5,16 +5,14 @@ use mathlib.Core.List.{List, [], ◌∷◌, ◌++◌, map}
 use Prim.Native.Nat.{ℕ, ◌<◌, min}
 use native.Mathlib.Omega.{arith}
 use lib.ListN.{length, get_or}
-use Rattle.std.specs.Prelude.{None, Result, Ok, Err}
+use Rattle.std.specs.Prelude.{Result, Ok, Err}
 use Rattle.words.specs.Lists.{below}
 use Rattle.words.specs.Buffer.{placed}
 use Rattle.words.proofs.Choice.{if-true, if-false}
-use Rattle.words.proofs.Lists.{get_d_any}
 use Rattle.words.proofs.Filled.{below-same, filled_at}
 use Rattle.fields.specs.Fields.{joined}
 use Rattle.fields.proofs.Lines.{joined-append}
 use Rattle.lines.proofs.Laws.{joined-one}
-use Rattle.report.specs.declared.Report.{Report}
 use Rattle.refusals.specs.declared.Refusal.{Refusal}
 use Rattle.refusals.specs.declared.Refusal.TheVariants.{BadTable}
 use Rattle.table.specs.Limits.{most_rows}
@@ -25,29 +23,13 @@ use Rattle.table.specs.declared.Table.{Table as TableValue}
 use Rattle.text.specs.Read.{read_text, reading_of}
 use Rattle.text.specs.Write.{length_in}
 use Rattle.text.proofs.Back.{reading-accepted, reading-refused}
-use Rattle.ticks.specs.Ticks.{long}
-use Rattle.verdicts.specs.declared.Bound.TheVariants.{Whole}
-use Rattle.verdicts.specs.declared.Verdict.TheVariants.{Fits}
 use Rattle.figures.specs.declared.RowFigures.{RowFigures}
 use Rattle.figures.specs.declared.TableFigures.{TableFigures}
 use Rattle.figures.specs.Answers.{figures_of, table_verdict, answers, table_figures}
 use Rattle.table.proofs.Used.{row_is, len_is, len-most}
 use Rattle.refused.specs.Refused.{refused_line}
 use Rattle.report.specs.Report.{row_line, last_line, report_text, answer_to, answer_text, reported, reported_into}
-use Rattle.report.specs.Parts.{no_answer, answer_line, lines_text, said_line, report_lines}
-
--- the line of row k, as the code has it
-abbrev pub said_at : Report → ℕ → List ℕ
-said_at r k = said_line (get_or r.table.rows k no_value) (get_or r.figures.rows k no_answer)
-
--- what the language says to stand behind the end of an array of answers
-abbrev pub behind : Result RowFigures Refusal
-behind = Ok (record { verdict = Fits Whole (long 0); whole = None; split = None; rounds = 0 })
-
--- within the array it makes no difference what stands behind its end
-pub said_is : (r : Report) (k : ℕ) (a : Result RowFigures Refusal) → k < length r.figures.rows → get_or r.figures.rows k behind ≡ a
-    → said_line (get_or r.table.rows k no_value) a ≡ said_at r k
-said_is r k a h e = ap (said_line (get_or r.table.rows k no_value)) (sym e ∙ get_d_any r.figures.rows k behind no_answer h)
+use Rattle.report.specs.Parts.{no_answer, answer_line, lines_text, behind, said_line, report_lines}
 
 module _ (v : TableValue) (ok : well_formed v ≡ true) where
   abbrev t : Table
@@ -58,14 +40,15 @@ module _ (v : TableValue) (ok : well_formed v ≡ true) where
   paper_line k = row_line (row_at t k) (figures_of (row_at t) k)
 
   -- whatever says of each row's figures what its line on paper says, says of all rows what the report on paper does
-  module _ (says : RowValue → Result RowFigures Refusal → List ℕ) (same : (w : RowValue) (f : RowFigures) → says w (Ok f) ≡ row_line (row_of w) f) where
-    line-is : (k : ℕ) → k < v.len → says (get_or v.rows k no_value) (get_or (answers t) k no_answer) ≡ paper_line k
+  module _ (says : RowValue → Result RowFigures Refusal → List ℕ) (same : (w : RowValue) (f : RowFigures) → says w (Ok f) ≡ row_line (row_of w) f)
+      (d : Result RowFigures Refusal) where
+    line-is : (k : ℕ) → k < v.len → says (get_or v.rows k no_value) (get_or (answers t) k d) ≡ paper_line k
     unfolding answers
     line-is k h =
-        ap (says (get_or v.rows k no_value)) (filled_at (λ i. Ok (figures_of (row_at t) i)) (length t) _ no_answer k (omega (arith, len_is v ok)))
+        ap (says (get_or v.rows k no_value)) (filled_at (λ i. Ok (figures_of (row_at t) i)) (length t) _ d k (omega (arith, len_is v ok)))
         ∙ same (get_or v.rows k no_value) (figures_of (row_at t) k) ∙ ap (λ (r : Row). row_line r (figures_of (row_at t) k)) (row_is v ok k)
 
-    lines_are : joined (map (λ k. says (get_or v.rows k no_value) (get_or (answers t) k no_answer)) (below v.len)) ≡ joined (map paper_line (below (length t)))
+    lines_are : joined (map (λ k. says (get_or v.rows k no_value) (get_or (answers t) k d)) (below v.len)) ≡ joined (map paper_line (below (length t)))
     lines_are = ap joined (below-same _ paper_line v.len line-is) ∙ ap (λ n. joined (map paper_line (below n))) (len_is v ok)
 
   figures-are : table_figures v ≡ Ok (record { verdict = table_verdict t; rows = answers t })
@@ -86,19 +69,19 @@ module _ (v : TableValue) (ok : well_formed v ≡ true) where
   report-parts f e =
       sym
       (ap (λ (g : TableFigures). lines_text v.rows g.rows v.len ++ last_line g.verdict) (figures-in f e)
-      ∙ ap (λ (l : List ℕ). l ++ last_line (table_verdict t)) (lines_are (λ w. answer_line (row_of w)) (λ w g. refl)))
+      ∙ ap (λ (l : List ℕ). l ++ last_line (table_verdict t)) (lines_are (λ w. answer_line (row_of w)) (λ w g. refl) no_answer))
 
   -- the same, as the lines that the code has
-  pub report-lines : (f : TableFigures) → Ok f ≡ table_figures v → joined (report_lines (record { table = v; figures = f })) ≡ report_text t
+  pub report-lines : (f : TableFigures) → Ok f ≡ table_figures v → joined (report_lines v f) ≡ report_text t
   unfolding report_text
   report-lines f e =
       let n : min v.len most_rows ≡ v.len = omega (arith, len-most v ok) in
-      let says : ℕ → List ℕ = λ k. said_line (get_or v.rows k no_value) (get_or (answers t) k no_answer) in
+      let says : ℕ → List ℕ = λ k. said_line (get_or v.rows k no_value) (get_or (answers t) k behind) in
       let last = last_line (table_verdict t) in
-      ap (λ (g : TableFigures). joined (report_lines (record { table = v; figures = g }))) (figures-in f e)
+      ap (λ (g : TableFigures). joined (report_lines v g)) (figures-in f e)
       ∙ joined-append (map says (below (min v.len most_rows))) (last ∷ [])
       ∙ ap (λ m. joined (map says (below m)) ++ joined (last ∷ [])) n
-      ∙ ap (λ (l : List ℕ). l ++ joined (last ∷ [])) (lines_are said_line (λ w g. refl))
+      ∙ ap (λ (l : List ℕ). l ++ joined (last ∷ [])) (lines_are said_line (λ w g. refl) behind)
       ∙ ap (λ (l : List ℕ). joined (map paper_line (below (length t))) ++ l) (joined-one last)
 
 -- the answers of writing

@@ -1,5 +1,5 @@
 -- The parts of a report, and its lines as the code has them. proofs/Tables shows that together they are `report_text`.
-use Rattle.std.specs.Prelude.{Result, Ok, Err, List, [], ◌∷◌, ◌++◌, map, ℕ, min, get_or}
+use Rattle.std.specs.Prelude.{None, Result, Ok, Err, List, [], ◌∷◌, ◌++◌, map, ℕ, min, get_or}
 use Rattle.words.specs.Lists.{below}
 use Rattle.fields.specs.Fields.{line, joined}
 use Rattle.refusals.specs.declared.Refusal.{Refusal}
@@ -8,7 +8,11 @@ use Rattle.table.specs.Paper.{Row}
 use Rattle.table.specs.Value.{no_value, row_of}
 use Rattle.table.specs.declared.Row.{Row as RowValue}
 use Rattle.table.specs.Limits.{most_rows}
-use Rattle.report.specs.declared.Report.{Report}
+use Rattle.table.specs.declared.Table.{Table as TableValue}
+use Rattle.figures.specs.declared.TableFigures.{TableFigures}
+use Rattle.ticks.specs.Ticks.{long}
+use Rattle.verdicts.specs.declared.Bound.TheVariants.{Whole}
+use Rattle.verdicts.specs.declared.Verdict.TheVariants.{Fits}
 use Rattle.figures.specs.declared.RowFigures.{RowFigures}
 use Rattle.report.specs.Report.{row_line, last_line}
 
@@ -34,8 +38,14 @@ abbrev pub said_line : RowValue → Result RowFigures Refusal → List ℕ
 said_line v (Ok f) = row_line (row_of v) f
 said_line v (Err why) = line (row_of v).name []
 
+-- what the language says to stand behind the end of an array of answers
+abbrev pub behind : Result RowFigures Refusal
+behind = Ok (record { verdict = Fits Whole (long 0); whole = None; split = None; rounds = 0 })
+
+-- what is said of row k, from 0
+abbrev pub said_at : TableValue → TableFigures → ℕ → List ℕ
+said_at v f k = said_line (get_or v.rows k no_value) (get_or f.rows k behind)
+
 -- the lines of a report: those of the rows, no more than the arrays have, and the last line
-abbrev pub report_lines : Report → List (List ℕ)
-report_lines r =
-    map (λ k. said_line (get_or r.table.rows k no_value) (get_or r.figures.rows k no_answer)) (below (min r.table.len most_rows))
-    ++ (last_line r.figures.verdict ∷ [])
+abbrev pub report_lines : TableValue → TableFigures → List (List ℕ)
+report_lines v f = map (said_at v f) (below (min v.len most_rows)) ++ (last_line f.verdict ∷ [])

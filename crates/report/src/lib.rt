@@ -20,7 +20,7 @@ use verdicts::{TableVerdict, Verdict};
 // The most bytes of an answer to a text: 52 for each row's line, and 13 for the last.
 pub const LONGEST: usize = Table::ROWS * 52 + 13;
 
-// The figure with which a row fits.
+// The figure with which a row fits. No `From`: a verdict has no figure as its value, and the word says which one is meant.
 fn figure_of(verdict: Verdict) -> Option<Length>
     ensures { result ≡ figure_in verdict }
 {
@@ -31,7 +31,7 @@ fn figure_of(verdict: Verdict) -> Option<Length>
     }
 }
 
-// A figure as a field.
+// A figure as a field. This and the next two are no `From`: both types stand in other crates.
 fn figure_field(figure: Option<Length>) -> Field
     ensures { field_text result ≡ figure_text figure }
 {
@@ -86,23 +86,23 @@ fn last_line(verdict: TableVerdict) -> Line
 
 // A report: a table, and what is said of it.
 #[derive(Clone, Copy)]
-struct Report {
-    table: Table,
-    figures: TableFigures,
+struct Report<'a> {
+    table: &'a Table,
+    figures: &'a TableFigures,
 }
 
-impl Report {
+impl Report<'_> {
     // How many rows it has.
     fn rows(&self) -> usize
-        ensures { result ≡ min self.now.table.len most_rows }
+        ensures { result ≡ min self.now.table.now.len most_rows }
     {
         self.table.len.min(Table::ROWS)
     }
 }
 
 // One line a row, and the last line. A row of which nothing is said has its name alone: a well-formed table has none.
-impl Lines for Report {
-    ghost lines = { report_lines };
+impl Lines for Report<'_> {
+    ghost lines = { λ r. report_lines r.table.now r.figures.now };
 
     fn count(&self) -> usize {
         self.rows() + 1
@@ -126,7 +126,11 @@ pub fn write(table: Table, out: &mut [u8]) -> Result<usize, Refusal>
     ensures { (result ≡ reported table out.old) × (out.new ≡ reported_into table out.old) }
 {
     let figures = figures::table_figures(table)?;
-    lines::write(&Report { table, figures }, out)
+    let report = Report {
+        table: &table,
+        figures: &figures,
+    };
+    lines::write(&report, out)
 }
 
 // Writes the whole answer to a text, that is its report or the line of its refusal, or nothing.

@@ -1,14 +1,11 @@
 // The rules of a table, tested in code: of a name, of a count of times, and of a whole table value.
 #![tactic(auto)]
 
-ghost use Rattle.std.specs.Prelude.{◌≡◌, [], map, ◌≤◌, take, drop};
+ghost use Rattle.std.specs.Prelude.{◌≡◌, []};
 ghost use Rattle.std.specs.List.{list_all};
 ghost use Rattle.words.specs.Choice.{◌and◌};
-ghost use Rattle.words.specs.Lists.{is_zero, all};
-ghost use Rattle.table.specs.Limits.{most_rows, most_times};
 ghost use Rattle.table.specs.Paper.{name_byte, right_name, right_number, right_count};
 ghost use Rattle.table.specs.Value.{well_formed};
-ghost use Rattle.ticks.specs.Ticks.{ticks};
 ghost use Rattle.rules.specs.Tests.{right_value, unused, rows_test};
 
 use table::{Row, Table};
@@ -49,18 +46,6 @@ pub fn right_name(bytes: &[u8]) -> bool
         return false;
     }
     name_bytes(bytes)
-}
-
-fn zero_bytes(bytes: &[u8]) -> bool
-    ensures { result ≡ list_all is_zero bytes.now }
-{
-    bytes.iter().all(|b| *b == 0)
-}
-
-fn zero_times(times: &[Length]) -> bool
-    ensures { result ≡ list_all (λ time. is_zero time.0) times.now }
-{
-    times.iter().all(|time| time.0 == 0)
 }
 
 fn right_number(x: Length) -> bool
@@ -111,8 +96,8 @@ fn right_row(row: Row) -> bool
     );
     let right = both(right_name(&name[..len]), numbers);
     both(
-        zero_bytes(&name[len..]),
-        both(zero_times(&times[count..]), right),
+        buffers::unused(&name[len..], 0),
+        both(buffers::unused(&times[count..], Length(0)), right),
     )
 }
 
@@ -124,9 +109,9 @@ fn unused_row(row: Row) -> bool
     let times = row.times;
     let numbers = both(
         row.period.0 == 0,
-        both(row.deadline.0 == 0, zero_times(&times)),
+        both(row.deadline.0 == 0, buffers::unused(&times, Length(0))),
     );
-    both(zero_bytes(&name), numbers)
+    both(buffers::unused(&name, 0), numbers)
 }
 
 // Whether the rows in use are right, each after those above it.

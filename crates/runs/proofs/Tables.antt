@@ -28,7 +28,6 @@ use Rattle.kernel.specs.Completion.{completion}
 use Rattle.machine.specs.Run.{completion_value, completions, full_run}
 use Rattle.machine.proofs.Completions.{run-there, run-many}
 use Rattle.runs.specs.Runs.{instant_text, run_line, run_text, ran_in, ran_into}
-use Rattle.runs.specs.declared.Run.{Run}
 use Rattle.runs.specs.Parts.{first_text, line_at, run_lines}
 
 -- a completion and its value have the same text
@@ -56,11 +55,7 @@ module _ (v : TableValue) (ok : well_formed v ≡ true) (n : ℕ) where
   rows-min : min v.len most_rows ≡ v.len
   rows-min = omega (arith, len-most v ok)
 
-  -- its run
-  abbrev run_of : List (Option Instant) → Run
-  run_of firsts = record { table = v; firsts = firsts }
-
-  lines_are : joined (run_lines (run_of (completions t n))) ≡ run_text t n
+  lines_are : joined (run_lines v (completions t n)) ≡ run_text t n
   unfolding run_text
   lines_are =
       ap (λ m. joined (map (line_at v.rows (completions t n)) (below m))) rows-min
@@ -84,8 +79,8 @@ module _ (v : TableValue) (ok : well_formed v ≡ true) (n : ℕ) where
         cc
 
     -- THE RUN'S TEXT: its lines
-    pub ran-lines : joined (run_lines (run_of firsts)) ≡ run_text t n
-    ran-lines = ap (λ (q : List (Option Instant)). joined (run_lines (run_of q))) ran-is ∙ lines_are
+    pub ran-lines : joined (run_lines v firsts) ≡ run_text t n
+    ran-lines = ap (λ (q : List (Option Instant)). joined (run_lines v q)) ran-is ∙ lines_are
 
     -- the answer where it took place
     pub answer-ran : (d : List ℕ)

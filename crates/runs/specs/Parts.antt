@@ -6,9 +6,9 @@ use Rattle.decimal.specs.Decimal.{digits}
 use Rattle.fields.specs.Fields.{line}
 use Rattle.table.specs.Value.{no_value, row_of}
 use Rattle.table.specs.declared.Row.{Row as RowValue}
+use Rattle.table.specs.declared.Table.{Table as TableValue}
 use Rattle.ticks.specs.declared.Instant.{Instant}
 use Rattle.table.specs.Limits.{most_rows}
-use Rattle.runs.specs.declared.Run.{Run}
 
 -- a completion, as the machine has it
 abbrev pub first_text : Option Instant → List ℕ
@@ -20,5 +20,5 @@ abbrev pub line_at : List RowValue → List (Option Instant) → ℕ → List �
 line_at rows firsts k = line (row_of (get_or rows k no_value)).name (first_text (get_or firsts k None) ∷ [])
 
 -- the lines of a run: no more than the arrays have
-abbrev pub run_lines : Run → List (List ℕ)
-run_lines r = map (line_at r.table.rows r.firsts) (below (min r.table.len most_rows))
+abbrev pub run_lines : TableValue → List (Option Instant) → List (List ℕ)
+run_lines v firsts = map (line_at v.rows firsts) (below (min v.len most_rows))

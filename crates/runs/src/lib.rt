@@ -16,14 +16,14 @@ pub const LONGEST: usize = Table::ROWS * 21;
 
 // A run: its table, and what the machine noted of each row.
 #[derive(Clone, Copy)]
-struct Run {
-    table: Table,
-    firsts: [Option<Instant>; Table::ROWS],
+struct Run<'a> {
+    table: &'a Table,
+    firsts: &'a [Option<Instant>; Table::ROWS],
 }
 
 // One line a row: its name, and the completion of its first job.
-impl Lines for Run {
-    ghost lines = { run_lines };
+impl Lines for Run<'_> {
+    ghost lines = { λ r. run_lines r.table.now r.firsts.now };
 
     fn count(&self) -> usize {
         self.table.len.min(Table::ROWS)
@@ -42,5 +42,9 @@ pub fn answer(text: &[u8], ticks: u64, out: &mut [u8]) -> Result<usize, Refusal>
 {
     let table = text::read(text)?;
     let firsts = machine::full_run(table, ticks)?;
-    lines::write(&Run { table, firsts }, out)
+    let run = Run {
+        table: &table,
+        firsts: &firsts,
+    };
+    lines::write(&run, out)
 }

@@ -1,5 +1,5 @@
 // A table of rows, by value, and its limits.
-// A row keeps zeros behind its name and behind its times, and rows that are not used are all zero: so no count can disagree with what it counts.
+// As document 01 has it, a row keeps zeros behind its name and behind its times, and rows that are not used are all zero: so no count can disagree with what it counts.
 #![tactic(auto)]
 
 ghost use Rattle.std.specs.Prelude.{◌≡◌, map, ltb, length, take};
@@ -21,7 +21,8 @@ pub struct Row {
     pub times: [Length; Table::TIMES],
 }
 
-// Highest priority first.
+// Highest priority first. A count beside the array, and no Vec: the library has no heap, and a count that is wrong (17 in `values`) is refused by
+// 20, which `well_formed` says exactly.
 #[derive(Clone, Copy)]
 pub struct Table {
     pub rows: [Row; Table::ROWS],
@@ -44,24 +45,14 @@ impl Row {
     pub fn name_len(self) -> usize
         ensures { result ≡ length (row_of self).name }
     {
-        for (len, byte) in self.name.iter().enumerate() {
-            if *byte == 0 {
-                return len;
-            }
-        }
-        Table::NAME
+        buffers::used(&self.name, 0)
     }
 
     // How many times the row has, C and S together.
     pub fn count(self) -> usize
         ensures { result ≡ length (row_of self).times }
     {
-        for (count, time) in self.times.iter().enumerate() {
-            if time.0 == 0 {
-                return count;
-            }
-        }
-        Table::TIMES
+        buffers::used(&self.times, Length(0))
     }
 
     // Whether the row has a suspension.
@@ -117,7 +108,7 @@ impl Table {
     }
 }
 
-// Whether one of the first n rows has the name.
+// Whether one of the first n rows has the name. The slice has n beside it, since the wrong version `one_row_more_sought` is about n.
 pub fn named(rows: &[Row], n: usize, name: [u8; Table::NAME]) -> bool
     ensures { result ≡ name_in name (take n rows.now) }
 {

@@ -1,4 +1,5 @@
 pub mod Split
+pub mod Parts
 pub mod Steps
 pub mod Lines
 pub mod Fits

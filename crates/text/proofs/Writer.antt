@@ -72,7 +72,7 @@ made-line v k n fs l h e w =
 -- a well-formed table value
 module _ (v : TableValue) (ok : well_formed v ≡ true) where
   -- all lines are the text
-  pub lines_are : joined (row_lines (record { table = v })) ≡ table_text (table_of v)
+  pub lines_are : joined (row_lines v) ≡ table_text (table_of v)
   lines_are =
       let n : min v.len most_rows ≡ length (table_of v) = omega (arith, len_is v ok, len-most v ok) in
       ap (λ (f : ℕ → List ℕ). joined (map f (below (min v.len most_rows)))) (λ i k. line_text (row_is v ok k i))

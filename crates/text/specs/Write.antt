@@ -1,14 +1,16 @@
 -- The text of a table, and what writing it into a lent buffer gives.
-use Rattle.std.specs.Prelude.{Result, Ok, Err, List, ◌∷◌, map, ℕ, leb, length, if◌then◌else◌}
+use Rattle.std.specs.Prelude.{Result, Ok, Err, List, ◌∷◌, map, ℕ, if◌then◌else◌}
 use Rattle.words.specs.Buffer.{placed}
 use Rattle.decimal.specs.Decimal.{digits}
 use Rattle.table.specs.Paper.{Row, Table}
 use Rattle.table.specs.Value.{table_of, well_formed}
 use Rattle.table.specs.declared.Table.{Table as TableValue}
 use Rattle.refusals.specs.declared.Refusal.{Refusal}
-use Rattle.refusals.specs.declared.Refusal.TheVariants.{BadTable, NoRoom}
+use Rattle.refusals.specs.declared.Refusal.TheVariants.{BadTable}
 use Rattle.refusals.specs.Refusals.{number_of}
 use Rattle.fields.specs.Fields.{line, joined}
+-- the length of what is to be put into a buffer; 22 where it is too short
+pub use Rattle.lines.specs.Lines.{length_in}
 
 -- a row's line: name, T, D, and the times
 unfoldable pub line_text : Row → List ℕ
@@ -17,10 +19,6 @@ line_text r = line r.name (map digits (r.period ∷ r.deadline ∷ r.times))
 -- a table's text: one line a row
 unfoldable pub table_text : Table → List ℕ
 table_text t = joined (map line_text t)
-
--- the length of what is to be put into a buffer; 22 where it is too short
-abbrev pub length_in : List ℕ → List ℕ → Result ℕ Refusal
-length_in bs d = if leb (length bs) (length d) then Ok (length bs) else Err NoRoom
 
 -- the number of what was written: 0 where it was
 abbrev pub number_of_written : Result ℕ Refusal → ℕ

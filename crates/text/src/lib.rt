@@ -1,8 +1,8 @@
 // The text of a table: read line by line and field by field, and written into a lent buffer.
 #![tactic(auto)]
 
-ghost use Rattle.std.specs.Prelude.{◌≡◌, suc, ◌+◌, ◌-◌, ◌≤◌, ◌<◌, length, drop};
-ghost use Rattle.words.specs.Lists.{up_to, padded};
+ghost use Rattle.std.specs.Prelude.{◌≡◌, suc, ◌+◌, ◌-◌, ◌≤◌, length};
+ghost use Rattle.words.specs.Lists.{padded};
 ghost use Rattle.table.specs.Limits.{most_times, longest_name};
 ghost use Rattle.table.specs.Value.{row_of, row_value};
 ghost use Rattle.text.specs.Split.{fields};
@@ -20,40 +20,18 @@ use ticks::Length;
 // The fields of a line before its times: name, T, D.
 const FIXED: usize = 3;
 
-// Where the byte stands first, from a place on; the end where it does not.
-fn find(bytes: &[u8], from: usize, byte: u8) -> usize
-    requires { from ≤ length bytes.now }
-    ensures { result ≡ from + length (up_to byte (drop from bytes.now)) }
-{
-    for i in from..bytes.len() {
-        if bytes[i] == byte {
-            return i;
-        }
-    }
-    bytes.len()
-}
-
-// How many fields a line has: one more than it has tabs.
+// How many fields a line has.
 fn count_fields(line: &[u8]) -> usize
     ensures { result ≡ length (fields line.now) }
 {
-    let mut n: usize = 1;
-    for b in line {
-        if *b == TAB {
-            n += 1;
-        }
-    }
-    n
+    line.split(|b| *b == TAB).count()
 }
 
 // Whether a line may have so many fields.
 fn right_fields(k: usize) -> bool
     ensures { result ≡ right_fields k }
 {
-    if k < FIXED {
-        return false;
-    }
-    rules::right_count(k - FIXED)
+    FIXED <= k && rules::right_count(k - FIXED)
 }
 
 // The name as a row keeps it, with zeros behind it.
@@ -61,104 +39,83 @@ fn name_bytes(field: &[u8]) -> [u8; Table::NAME]
     requires { length field.now ≤ longest_name }
     ensures { result ≡ padded longest_name field.now }
 {
-    let mut name = [0u8; Table::NAME];
+    let mut name = [0; Table::NAME];
     buffers::copy(field, &mut name);
     name
 }
 
 // The row with the number of field f: T, D, then the times one after another.
-fn with_number(row: Row, f: usize, n: u64) -> Row
+fn with_number(mut row: Row, f: usize, n: u64) -> Row
     requires { (row ≡ row_value (row_of row)) × (2 ≤ f) × (f ≤ most_times + fixed_fields) × (length (row_of row).times ≡ f - suc fixed_fields) }
     ensures { result ≡ row_value (with_number (row_of row) f n) }
 {
-    let mut r = row;
-    let length = Length(n);
-    if f == 2 {
-        r.period = length;
-        return r;
+    match f {
+        2 => row.period = Length(n),
+        FIXED => row.deadline = Length(n),
+        _ => row.times[f - FIXED - 1] = Length(n),
     }
-    if f == FIXED {
-        r.deadline = length;
-        return r;
-    }
-    let i = f - FIXED - 1;
-    r.times[i] = length;
-    r
+    row
 }
 
 // Reads a text: the first bad field of the first bad line ends it.
 pub fn read(text: &[u8]) -> Result<Table, Refusal>
     ensures { result ≡ reading_of (read_text text.now) }
 {
-    // The first three refusals look at the whole text.
-    let len = text.len();
-    if len == 0 {
+    // The first three refusals look at the whole text. What is then cut into lines lacks the last line feed, behind which there is no line.
+    let Some((last, lines)) = text.split_last() else {
         return Err(Refusal::NoText);
-    }
-    let last = text[len - 1];
-    if Table::TEXT < len {
+    };
+    if Table::TEXT < text.len() {
         return Err(Refusal::LongText);
     }
-    if last != LINE_FEED {
+    if *last != LINE_FEED {
         return Err(Refusal::NoLineFeed);
     }
     let mut table = Table::empty();
     // Whether the last row waits: then no line may follow.
     let mut waiting = false;
-    let mut at: usize = 0;
-    'lines: loop {
-        if len <= at {
-            break 'lines Ok(table);
-        }
-        let n = table.len;
-        let number = n + 1;
-        if n == Table::ROWS {
-            break 'lines Err(Refusal::ManyLines(number));
-        }
-        if waiting {
-            break 'lines Err(Refusal::AfterWaiting(number));
-        }
-        let e = find(text, at, LINE_FEED);
-        let line = &text[at..e];
-        let k = count_fields(line);
-        if !right_fields(k) {
-            break 'lines Err(Refusal::FieldCount(number));
-        }
-        // The fields from left to right, f is the number of each: behind the line's last byte there is none.
-        let mut row = Row::empty();
-        let mut f: usize = 1;
-        let mut p: usize = 0;
-        while p <= line.len() {
-            let q = find(line, p, TAB);
-            let field = &line[p..q];
-            if f == 1 {
-                if !rules::right_name(field) {
-                    break 'lines Err(Refusal::BadName(number));
-                }
-                let name = name_bytes(field);
-                row.name = name;
-            } else {
-                match decimal::read(field, 1, Table::NUMBER) {
-                    Some(v) => row = with_number(row, f, v),
-                    None => break 'lines Err(Refusal::BadNumber(number, f)),
+    'lines: {
+        for (n, line) in lines.split(|b| *b == LINE_FEED).enumerate() {
+            // Lines and fields are numbered from 1.
+            let number = n + 1;
+            if n == Table::ROWS {
+                break 'lines Err(Refusal::ManyLines(number));
+            }
+            if waiting {
+                break 'lines Err(Refusal::AfterWaiting(number));
+            }
+            if !right_fields(count_fields(line)) {
+                break 'lines Err(Refusal::FieldCount(number));
+            }
+            let mut row = Row::empty();
+            for (i, field) in line.split(|b| *b == TAB).enumerate() {
+                let f = i + 1;
+                if f == 1 {
+                    if !rules::right_name(field) {
+                        break 'lines Err(Refusal::BadName(number));
+                    }
+                    row.name = name_bytes(field);
+                } else {
+                    match decimal::read(field, 1, Table::NUMBER) {
+                        Some(v) => row = with_number(row, f, v),
+                        None => break 'lines Err(Refusal::BadNumber(number, f)),
+                    }
                 }
             }
-            p = q + 1;
-            f += 1;
+            if row.period < row.deadline {
+                break 'lines Err(Refusal::LateDeadline(number));
+            }
+            if row.too_long() {
+                break 'lines Err(Refusal::LongTimes(number));
+            }
+            if table::named(&table.rows, n, row.name) {
+                break 'lines Err(Refusal::NameTaken(number));
+            }
+            waiting = row.waits();
+            table.rows[n] = row;
+            table.len = number;
         }
-        if row.period.0 < row.deadline.0 {
-            break 'lines Err(Refusal::LateDeadline(number));
-        }
-        if row.too_long() {
-            break 'lines Err(Refusal::LongTimes(number));
-        }
-        if table::named(&table.rows, n, row.name) {
-            break 'lines Err(Refusal::NameTaken(number));
-        }
-        waiting = row.waits();
-        table.rows[n] = row;
-        table.len = number;
-        at = e + 1;
+        Ok(table)
     }
 }
 
@@ -177,13 +134,13 @@ fn line(row: Row) -> Line
 
 // The rows of a table.
 #[derive(Clone, Copy)]
-struct Rows {
-    table: Table,
+struct Rows<'a> {
+    table: &'a Table,
 }
 
 // One line a row.
-impl Lines for Rows {
-    ghost lines = { row_lines };
+impl Lines for Rows<'_> {
+    ghost lines = { λ r. row_lines r.table.now };
 
     fn count(&self) -> usize {
         self.table.len.min(Table::ROWS)
@@ -201,5 +158,5 @@ pub fn write(table: Table, out: &mut [u8]) -> Result<usize, Refusal>
     if !rules::well_formed(table) {
         return Err(Refusal::BadTable);
     }
-    lines::write(&Rows { table }, out)
+    lines::write(&Rows { table: &table }, out)
 }

@@ -14,6 +14,7 @@ pub struct Instant(pub u64);
 #[derive(Clone, Copy, PartialEq, Eq, PartialOrd, Ord)]
 pub struct Length(pub u64);
 
+// Two `plus` and no operator in common: document 01 wants a helper for each pair that may be added, and no other.
 impl Instant {
     // The instant that lies a length after this one.
     pub fn plus(self, by: Length) -> Instant

@@ -57,10 +57,7 @@ fn answer<W: Write, E: Write>(
     item: &[u8],
 ) -> Result<(), Trouble> {
     let mut out = [0u8; replies::LONGEST];
-    let len = replies::reply(kind, item, &mut out);
-    if len == 0 {
-        return Err(Trouble::Broken);
-    }
+    let len = replies::reply(kind, item, &mut out).ok_or(Trouble::Broken)?;
     output::put(stdout, stderr, &out[..len]).map_err(|_| Trouble::Unwritten)
 }
 
@@ -76,6 +73,7 @@ fn answer_each<R: Read, W: Write, E: Write>(
     requires { answered.old ≡ 0 }
     ensures { answered.new ≤ 100000 }
 {
+    // Fixed memory, as everywhere here: a buffer, and how much of it is used.
     let mut item = [0u8; ITEM];
     for n in 0..ITEMS {
         let Some(len) = streams::next(stdin, &mut item)? else {

@@ -15,14 +15,12 @@ use Rattle.fields.proofs.write_number.Goals as goal
 final : (c : After-slice_known-2-1)
     → Put (tab ∷ digits c.args.n) c.args.out.now (spliced (set c.args.out.now 0 tab) 1 c.write.new.out) (1 + c.write.result)
 final c =
-    let s = c in
-    put-fitted (digits s.args.n) _ _ (put_first s.args.out.now tab (omega (arith, c.if-out-width.false))) (omega (arith, c.if-out-width.false, c.width.ensures)) c.write.ensures
+    put-fitted (digits c.args.n) _ _ (put_first c.args.out.now tab (omega (arith, c.if-out-width.false))) (omega (arith, c.if-out-width.false, c.width.ensures)) c.write.ensures
 
 pub returns-then-out-width : goal.returns-then-out-width
 returns-then-out-width c =
-    let s = c in
-    let w = tab ∷ digits s.args.n in
-    (sym (fitted_short w s.args.out.now (omega (arith, c.if-out-width.true, c.width.ensures))), sym (placed-short w s.args.out.now (omega (arith, c.if-out-width.true, c.width.ensures))))
+    let w = tab ∷ digits c.args.n in
+    (sym (fitted_short w c.args.out.now (omega (arith, c.if-out-width.true, c.width.ensures))), sym (placed-short w c.args.out.now (omega (arith, c.if-out-width.true, c.width.ensures))))
 
 pub slice_bounds-write-count : goal.slice_bounds-write-count
 slice_bounds-write-count c = simp length-set (omega (arith, c.if-out-width.false))
@@ -38,7 +36,6 @@ shape_of-out c = (final c).kept
 
 pub returns : goal.returns
 returns c =
-    let s = c in
-    let w = tab ∷ digits s.args.n in
-    let h : length w ≤ length s.args.out.now = omega (arith, c.if-out-width.false, c.width.ensures) in
-    ((final c).end ∙ sym (fitted-fits w s.args.out.now h), (final c).front ∙ sym (placed-fits w s.args.out.now h))
+    let w = tab ∷ digits c.args.n in
+    let h : length w ≤ length c.args.out.now = omega (arith, c.if-out-width.false, c.width.ensures) in
+    ((final c).end ∙ sym (fitted-fits w c.args.out.now h), (final c).front ∙ sym (placed-fits w c.args.out.now h))

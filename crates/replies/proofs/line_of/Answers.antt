@@ -5,13 +5,11 @@ use Rattle.replies.proofs.line_of.Goals as goal
 
 pub returns-in-Ok : goal.returns-in-Ok
 returns-in-Ok c =
-    let s = c in
     let w = c.write in
-    put_whole (refused_line s.args.why) s.args.out.now _ w.result s.requires w.ensures.0 w.ensures.1 _ c.in-Ok.is
+    put_whole (refused_line c.args.why) c.args.out.now _ w.result c.requires w.ensures.0 w.ensures.1 _ c.in-Ok.is
 
 pub returns-in-Err : goal.returns-in-Err
 returns-in-Err c =
-    let s = c in
     let w = c.write in
-    let l = refused_line s.args.why in
-    absurd (put-never-refused l s.args.out.now _ w.result s.requires w.ensures.0 w.ensures.1 _ c.in-Err.is)
+    let l = refused_line c.args.why in
+    absurd (put-never-refused l c.args.out.now _ w.result c.requires w.ensures.0 w.ensures.1 _ c.in-Err.is)

@@ -18,18 +18,16 @@ room c =
 
 pub returns-in-Ok : goal.returns-in-Ok
 returns-in-Ok c =
-    let s = c in
     let w = c.answer in
-    let t = answer_text s.args.text.now in
-    let d = s.args.out.now in
+    let t = answer_text c.args.text.now in
+    let d = c.args.out.now in
     let h = room (goal.at.returns-in-Ok c).After-answer-arg-1 in
     let r = replied t d _ _ h (put_whole t d _ w.result h w.ensures.0 w.ensures.1 _ c.in-Ok.is) in
     record { value = r.0; front = r.1 }
 
 pub returns-in-Err : goal.returns-in-Err
 returns-in-Err c =
-    let s = c in
     let w = c.answer in
-    let t = answer_text s.args.text.now in
+    let t = answer_text c.args.text.now in
     let h = room (goal.at.returns-in-Err c).After-answer-arg-1 in
-    absurd (put-never-refused t s.args.out.now _ w.result h w.ensures.0 w.ensures.1 _ c.in-Err.is)
+    absurd (put-never-refused t c.args.out.now _ w.result h w.ensures.0 w.ensures.1 _ c.in-Err.is)

@@ -45,19 +45,18 @@ slice_bounds-right_name-end c =
     let l = name-size (goal.at.slice_bounds-right_name-end c).Start in
     sym (length-take-le _ _ (omega arith))
 
-pub slice_bounds-zero_bytes-count : goal.slice_bounds-zero_bytes-count
-slice_bounds-zero_bytes-count c = name-fits (goal.at.slice_bounds-zero_bytes-count c).Start _ c.name_len-len.ensures
+pub slice_bounds-unused-count : goal.slice_bounds-unused-count
+slice_bounds-unused-count c = name-fits (goal.at.slice_bounds-unused-count c).Start _ c.name_len-len.ensures
 
-pub slice_bounds-zero_bytes-start : goal.slice_bounds-zero_bytes-start
-slice_bounds-zero_bytes-start c =
-    let h = name-fits (goal.at.slice_bounds-zero_bytes-start c).Start _ c.name_len-len.ensures in
+pub slice_bounds-unused-start : goal.slice_bounds-unused-start
+slice_bounds-unused-start c =
+    let h = name-fits (goal.at.slice_bounds-unused-start c).Start _ c.name_len-len.ensures in
     search rules
 
-pub slice_bounds-zero_bytes-end : goal.slice_bounds-zero_bytes-end
-slice_bounds-zero_bytes-end c =
-    let s = c in
-    let h : longest_name ≤ length s.args.row.name
-    = omega (arith, name-size (goal.at.slice_bounds-zero_bytes-end c).Start) in
+pub slice_bounds-unused-end : goal.slice_bounds-unused-end
+slice_bounds-unused-end c =
+    let h : longest_name ≤ length c.args.row.name
+    = omega (arith, name-size (goal.at.slice_bounds-unused-end c).Start) in
     h
 
 pub slice_bounds-times-end : goal.slice_bounds-times-end
@@ -78,16 +77,16 @@ offset_bounds-times-count c =
     let l = times-size (goal.at.offset_bounds-times-count c).Start in
     search rules
 
-pub slice_bounds-zero_times-count : goal.slice_bounds-zero_times-count
-slice_bounds-zero_times-count c =
-    let h = times-fit (goal.at.slice_bounds-zero_times-count c).Start _ c.count-count.ensures in
-    let l = times-size (goal.at.slice_bounds-zero_times-count c).Start in
+pub slice_bounds-unused-count-2 : goal.slice_bounds-unused-count-2
+slice_bounds-unused-count-2 c =
+    let h = times-fit (goal.at.slice_bounds-unused-count-2 c).Start _ c.count-count.ensures in
+    let l = times-size (goal.at.slice_bounds-unused-count-2 c).Start in
     h
 
-pub slice_bounds-zero_times-start : goal.slice_bounds-zero_times-start
-slice_bounds-zero_times-start c =
-    let h = times-fit (goal.at.slice_bounds-zero_times-start c).Start _ c.count-count.ensures in
-    let l = times-size (goal.at.slice_bounds-zero_times-start c).Start in
+pub slice_bounds-unused-start-2 : goal.slice_bounds-unused-start-2
+slice_bounds-unused-start-2 c =
+    let h = times-fit (goal.at.slice_bounds-unused-start-2 c).Start _ c.count-count.ensures in
+    let l = times-size (goal.at.slice_bounds-unused-start-2 c).Start in
     search rules
 
 pub returns : goal.returns
@@ -96,7 +95,7 @@ returns c =
     let n = c.name_len-len in
     let front = c.right_name.ensures
     ∙ ap right_name (name-front s.args.row n.result n.ensures) in
-    let back = c.zero_bytes.ensures ∙ all-list_all is_zero _ ∙ name_back s.args.row n.result (name-size s) n.ensures in
+    let back = c.unused.ensures ∙ all-list_all is_zero _ ∙ name_back s.args.row n.result (name-size s) n.ensures in
     let le : c.le.result ≡ leb s.args.row.deadline.0 s.args.row.period.0 = search rules in
     c.both-4.ensures
     ∙ row-tests s.args.row c.count-count.result c.count-count.ensures c.too_long.ensures (c.both-lengths.ensures ∙ ap (λ (z : Bool). z and not c.too_long.result) le)
@@ -107,4 +106,4 @@ returns c =
     c.both-2.ensures
     c.right_number.ensures
     c.both-numbers.ensures
-    front c.both-right.ensures (c.zero_times.ensures ∙ times-rest is_zero s.args.row.times c.count-count.result most_times (times-size s)) c.both-3.ensures back
+    front c.both-right.ensures (c.unused-2.ensures ∙ times-rest is_zero s.args.row.times c.count-count.result most_times (times-size s)) c.both-3.ensures back

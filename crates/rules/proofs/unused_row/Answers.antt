@@ -14,9 +14,9 @@ unfolding unused
 returns c =
     let a = c.args.row in
     c.both-2.ensures
-    ∙ ap (λ (z : Bool). z and c.both-numbers.result) (c.zero_bytes.ensures ∙ all-list_all is_zero a.name)
+    ∙ ap (λ (z : Bool). z and c.both-numbers.result) (c.unused-2.ensures ∙ all-list_all is_zero a.name)
     ∙ ap (λ (z : Bool). all is_zero a.name and z)
     (c.both-numbers.ensures
     ∙ ap (λ (z : Bool). eqb a.period.0 0 and z)
     (c.both.ensures
-    ∙ ap (λ (z : Bool). eqb a.deadline.0 0 and z) (c.zero_times.ensures ∙ all-times is_zero a.times)))
+    ∙ ap (λ (z : Bool). eqb a.deadline.0 0 and z) (c.unused.ensures ∙ all-times is_zero a.times)))

@@ -3,13 +3,11 @@ use mathlib.Core.Path.{◌≡◌, refl, sym, ap, ◌∙◌}
 use mathlib.Core.Bool.{true, false}
 use mathlib.Core.List.{List}
 use Prim.Native.Nat.{ℕ, min}
-use borrow.Author.Rules.{rules}
 use lib.ListN.{length, take, get_or}
 use Rattle.std.proofs.lemmas.List.{take_min}
 use Rattle.words.specs.Lists.{same}
 use Rattle.words.proofs.Choice.{or-true, or-false}
 use Rattle.words.proofs.Lists.{any-at, any_end, same-pointwise}
-use Rattle.table.specs.Limits.{most_rows}
 use Rattle.table.specs.Value.{name_in, no_value}
 use Rattle.table.specs.declared.Row.{Row}
 use Rattle.table.proofs.named.Goals as goal

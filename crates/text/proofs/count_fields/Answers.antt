@@ -1,17 +1,14 @@
--- `count_fields` meets its contract: the fields from here on, and those counted so far, are all fields and the one here.
-use Rattle.text.proofs.Split.{fields-tab, fields-other, fields-end}
-use Prim.Native.Nat.{◌<◌}
-use native.Mathlib.Omega.{arith}
+-- `count_fields` meets its contract: the fields are what cutting at the tab gives.
+use mathlib.Core.Path.{ap, ◌∙◌}
 use lib.ListN.{length}
-use Rattle.text.proofs.count_fields.Goals.{then-b-eq-TAB, else-b-eq-TAB}
+use borrow.Author.Rules.{rules}
+use borrow.Author.Tests.{tests}
+use Rattle.std.proofs.lemmas.Iterator.Consumers.{count_from_yields_List}
+use Rattle.std.proofs.lemmas.Iterator.Splits.{YieldsList-from_slice_split}
+use Rattle.text.proofs.Split.{cut_fields}
 use Rattle.text.proofs.count_fields.Goals as goal
 
-pub loop-b-preserved : goal.loop-b-preserved
-loop-b-preserved c =
-    let i = c.loop-b.b-index in
-    let l = c.args.line.now in
-    let h : i < length l = c.loop-b-test.true in
-    elim c.if-b-eq-TAB.branch [ then-b-eq-TAB w ↦ omega (arith, fields-tab l i h w.if-b-eq-TAB.true, w.n-is) | else-b-eq-TAB w ↦ omega (arith, fields-other l i h w.if-b-eq-TAB.false, w.n-is) ]
-
 pub returns : goal.returns
-returns c = omega (arith, fields-end c.args.line.now c.loop-b.b-index c.loop-b-test.false)
+returns c =
+    let s = c.split.ensures in
+    count_from_yields_List _ _ c.count.ensures.ran (YieldsList-from_slice_split _ _ c.args.line.now s.rest s.done s.closure (λ x b q k. search (rules, tests))) ∙ ap length (cut_fields c.args.line.now)

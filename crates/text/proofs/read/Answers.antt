@@ -1,153 +1,192 @@
--- `read` meets its contract: what is left of the text, below the rows so far, and what is left of the line, behind the fields so far, decide.
+-- `read` meets its contract: the lines left, below the rows so far, and the fields left of the line, behind those so far, decide.
 use mathlib.Core.Path.{◌≡◌, refl, sym, ap, ◌∙◌}
 use mathlib.Core.Bool.{true, false}
-use mathlib.Core.List.{List}
-use Prim.Native.Nat.{ℕ, ◌+◌, ◌≤◌}
+use mathlib.Core.List.{[], ◌∷◌, ◌++◌}
+use Prim.Native.Nat.{ℕ, ◌+◌, ◌-◌}
 use native.Mathlib.Omega.{arith}
-use lib.ListN.{length, length-take, length-drop}
+use lib.Dec.{eqb}
+use lib.ListN.{length, get_or}
 use borrow.Author.Rules.{rules}
-use Rattle.refusals.specs.declared.Refusal.{Refusal}
-use Rattle.table.proofs.Rules.{name-length}
+use borrow.Author.Tests.{tests}
 use Rattle.std.specs.Prelude.{Ok}
-use Rattle.text.specs.Split.{fields}
-use Rattle.text.specs.Read.{refused, bad, right_fields, no_row, read_fields, read_text, reading_of}
-use Rattle.text.proofs.Steps.{no_text, long-text, no-line-feed, text-lines}
-use Rattle.text.proofs.Reader.{AtEnd, AtTab, AtRow, line_at, lines-begin, all_read, refused-many, end-within, refused-waiting, refused-count, refused-field, fields-begin, fields-done, tab-within, field-few, refused-name, refused-number, after-name, after-number, refused-late, refused-long, refused-taken, after-row}
-use Rattle.table.specs.Value.{row_of}
-use Rattle.text.proofs.Values.{Kept}
-use Rattle.text.specs.Read.{got}
+use Rattle.std.specs.List.{slice_split}
+use Rattle.std.specs.Iterator.Adapters.{enumerate_source, enumerate_count}
+use Rattle.refusals.specs.declared.Refusal.{Refusal}
+use Rattle.fields.specs.Fields.{line_feed}
 use Rattle.table.specs.declared.Row.{Row as RowValue}
-use Rattle.text.proofs.read.Goals.{After-find-e, After-find-q, After-loop-p, At-lines, Else-not-right_fields, else-f-eq1+in-Some, then-f-eq1+else-not-right_name}
+use Rattle.table.specs.Value.{row_of}
+use Rattle.table.proofs.Rules.{name-length}
+use Rattle.text.specs.Split.{lines, fields}
+use Rattle.text.specs.Read.{refused, got, bad, right_fields, no_row, read_fields, read_text, reading_of}
+use Rattle.text.proofs.Split.{last_byte, cut_lines, cut_fields}
+use Rattle.text.proofs.Parts.{all_parts, no_part}
+use Rattle.text.proofs.Values.{Kept}
+use Rattle.text.proofs.Steps.{no_text, long-text, no-line-feed, text-lines}
+use Rattle.text.proofs.Reader.{OnLine, OnField, AtRow, lines-begin, next_line, all_read, refused-many, refused-waiting, refused-count, refused-field, fields-begin, next_field, fields-done, field-few, refused-name, refused-number, after-name, after-number, refused-late, refused-long, refused-taken, after-row}
+use Rattle.text.proofs.read.Goals.{In-Some, In-Some-2, In-Some-3, In-None-2, Else-not-right_fields, After-into_iter-i-iterator}
 use Rattle.text.proofs.read.Goals as goal
 
-pub empty-row-requires : goal.empty-row-requires
-empty-row-requires c = search rules
+-- there is a last byte
+some : (c : In-Some) → length c.args.text.now ≡ 0 → ⊥
+some c e = omega (arith, c.in-Some.ensures.cases.1)
 
-pub slice_bounds-field-count : goal.slice_bounds-field-count
-slice_bounds-field-count c = search rules
+ends : (c : In-Some) → get_or c.args.text.now (length c.args.text.now - 1) 0 ≡ c.in-Some.last.now
+ends c = last_byte _ c.in-Some.lines.now _ c.in-Some.ensures.cases.0 c.in-Some.ensures.cases.1
 
-pub slice_bounds-line-count : goal.slice_bounds-line-count
-slice_bounds-line-count c = search rules
+-- the lines of the text, which cutting all but its last byte gives
+lines_cut : (c : In-Some) → c.in-Some.last.now ≡ line_feed → slice_split (λ b. eqb b line_feed) c.in-Some.lines.now ≡ lines c.args.text.now
+lines_cut c e =
+    cut_lines c.in-Some.lines.now
+    ∙ ap (λ (x : ℕ). lines (c.in-Some.lines.now ++ (x ∷ []))) (sym e)
+    ∙ ap lines (sym c.in-Some.ensures.cases.0)
 
--- at the head of the loop over lines
-abbrev text_l : At-lines → List ℕ
-text_l c = c.args.text.now
+pub returns-in_default : goal.returns-in_default
+returns-in_default c = ap reading_of (sym (no_text _ c.in_default.ensures.cases))
 
--- once a line's end is found
-abbrev text_f : After-find-e → List ℕ
-text_f c = text_l (goal.at.slice_bounds-line-count c).At-lines
-
-abbrev line_f : After-find-e → List ℕ
-line_f c = line_at (text_f c) c.lines.at c.find-e.result
-
-at_end : (c : After-find-e) → AtEnd (text_f c) c.lines.table c.lines.waiting c.lines.at c.find-e.result
-at_end c = record { line = c.lines.invariant; here = c.if-len-at.false; room = c.if-n-eq-ROWS.false; found = c.find-e.ensures }
-
-line-short : (c : After-find-e) → length (line_f c) ≤ length (text_f c)
-line-short c = simp (length-take, length-drop) (omega arith)
-
--- its field count is right
-counted : (c : Else-not-right_fields) → right_fields (length (fields (line_f (goal.at.empty-row-requires c).After-find-e))) ≡ true
-counted c = ap right_fields (sym c.count_fields-k.ensures) ∙ sym c.right_fields.ensures ∙ c.if-not-right_fields.false
-
--- once a field's end is found
-at_tab : (c : After-find-q) → AtTab (line_f (goal.at.slice_bounds-field-count c).After-find-e) (c.lines.table.len + 1) c.loop-p.row c.loop-p.f c.loop-p.p c.find-q.result
-at_tab c = record { field = c.loop-p.invariant; here = c.loop-p-test.true; found = c.find-q.ensures }
-
-bad-field : (c : After-find-q) (x : Refusal) → read_fields (c.lines.table.len + 1) 1 no_row (fields (line_f (goal.at.slice_bounds-field-count c).After-find-e)) ≡ bad x → read_text (text_f (goal.at.slice_bounds-field-count c).After-find-e) ≡ refused x
-bad-field c x e = refused-field (at_end (goal.at.slice_bounds-field-count c).After-find-e) c.if-waiting.false (counted (goal.at.slice_bounds-field-count c).Else-not-right_fields) x e
-
--- once all fields of the line are read
-at_row : (e : After-find-e) (row : RowValue) → e.lines.waiting ≡ false → right_fields (length (fields (line_f e))) ≡ true → Kept row
-    → read_fields (e.lines.table.len + 1) 1 no_row (fields (line_f e)) ≡ got (row_of row)
-    → AtRow (text_f e) e.lines.table e.lines.waiting e.lines.at e.find-e.result row
-at_row e row only count kept done = record { end = at_end e; only = only; count = count; kept = kept; row = done }
-
-pub returns-then-len-eq0 : goal.returns-then-len-eq0
-returns-then-len-eq0 c = ap reading_of (sym (no_text _ c.if-len-eq0.true))
-
-pub returns-then-len-gt-TEXT : goal.returns-then-len-gt-TEXT
-returns-then-len-gt-TEXT c = ap reading_of (sym (long-text _ c.if-len-eq0.false c.if-len-gt-TEXT.true))
+pub returns-then-text-gt-TEXT : goal.returns-then-text-gt-TEXT
+returns-then-text-gt-TEXT c = ap reading_of (sym (long-text _ (some (goal.at.returns-then-text-gt-TEXT c).In-Some) c.if-text-gt-TEXT.true))
 
 pub returns-then-last-ne-LINE_FEED : goal.returns-then-last-ne-LINE_FEED
-returns-then-last-ne-LINE_FEED c = ap reading_of (sym (no-line-feed _ c.if-len-eq0.false (omega arith) c.if-last-ne-LINE_FEED.true))
+returns-then-last-ne-LINE_FEED c =
+    let s = (goal.at.returns-then-last-ne-LINE_FEED c).In-Some in
+    ap reading_of (sym (no-line-feed _ (some s) (omega arith) (λ e. c.if-last-ne-LINE_FEED.true (sym (ends s) ∙ e))))
 
-pub lines-init : goal.lines-init
-lines-init c = lines-begin _ _ c.empty-table.ensures (text-lines _ c.if-len-eq0.false c.if-len-gt-TEXT.false c.if-last-ne-LINE_FEED.false)
+pub loop-n-init : goal.loop-n-init
+loop-n-init c =
+    let s = (goal.at.loop-n-init c).In-Some in
+    let e = c.into_iter-n-iterator.ensures.into_iter_gives in
+    let i = lines-begin c.args.text.now c.empty-table.result (lines c.args.text.now) c.empty-table.ensures (text-lines _ (some s) c.if-text-gt-TEXT.false (ends s ∙ c.if-last-ne-LINE_FEED.false)) in (
+      lines c.args.text.now,
+      rw (i.0, ← lines_cut s c.if-last-ne-LINE_FEED.false)
+          (all_parts _ _ c.in-Some.lines.now c.split.result _ c.split.ensures.rest c.split.ensures.done c.split.ensures.closure (λ x b q k. search (rules, tests))
+          (ap enumerate_source e ∙ c.enumerate-n-items.ensures.source)
+          (ap enumerate_count e ∙ c.enumerate-n-items.ensures.count)),
+      i.1,
+    )
 
-pub slice_bounds-line-end : goal.slice_bounds-line-end
-slice_bounds-line-end c = end-within (at_end c)
+-- the line of a turn
+abbrev on_line : (c : In-Some-2) → OnLine c.args.text.now c.loop-n.table c.loop-n.waiting c.in-Some-2.n c.in-Some-2.line.now
+on_line c =
+    let i = c.loop-n.invariant in
+    (next_line _ _ _ c.next.result _ _ c.next.ensures.steps c.in-Some-2.is i.1 i.2).0
 
-pub loop-p-init : goal.loop-p-init
-loop-p-init c = fields-begin _ _ _ c.empty-row.ensures
+-- its field count is right
+counted : (c : Else-not-right_fields) → right_fields (length (fields c.in-Some-2.line.now)) ≡ true
+counted c = ap right_fields (sym c.count_fields.ensures) ∙ sym c.right_fields.ensures ∙ c.if-not-right_fields.false
 
-pub slice_bounds-field-end : goal.slice_bounds-field-end
-slice_bounds-field-end c = tab-within (at_tab c)
+pub loop-i-init : goal.loop-i-init
+loop-i-init c =
+    let e = c.into_iter-i-iterator.ensures.into_iter_gives in (
+      0,
+      fields c.into_iter-i-iterator.result.iter.rest.now,
+      rw (← cut_fields c.into_iter-i-iterator.result.iter.rest.now)
+          (all_parts _ _ c.into_iter-i-iterator.result.iter.rest.now c.into_iter-i-iterator.result.iter _ refl
+          (ap (λ s. s.iter.done) e ∙ ap (λ s. s.done) c.enumerate-i-items.ensures.source ∙ c.split-in-loop-n.ensures.done)
+          (ap (λ s. s.iter.pred) e ∙ ap (λ s. s.pred) c.enumerate-i-items.ensures.source ∙ c.split-in-loop-n.ensures.closure) (λ x b q k. search (rules, tests))
+          refl (ap enumerate_count e ∙ c.enumerate-i-items.ensures.count)),
+      fields-begin _ _ _ c.empty-row.ensures,
+    )
 
-pub name_bytes-name-requires : goal.name_bytes-name-requires
-name_bytes-name-requires c = (name-length _ (sym c.right_name.ensures ∙ c.if-not-right_name.false)).1
+-- the slice that the loop over fields cuts is the line
+same_line : (c : After-into_iter-i-iterator) → c.into_iter-i-iterator.result.iter.rest.now ≡ c.in-Some-2.line.now
+same_line c =
+    ap (λ s. s.iter.rest.now) c.into_iter-i-iterator.ensures.into_iter_gives
+    ∙ ap (λ s. s.rest.now) c.enumerate-i-items.ensures.source
+    ∙ c.split-in-loop-n.ensures.rest
 
-pub with_number-row-requires : goal.with_number-row-requires
-with_number-row-requires c =
-    let i = c.loop-p.invariant in
-    (i.kept, omega (arith, i.some, c.if-f-eq1.false), field-few (at_tab (goal.at.with_number-row-requires c).After-find-q) (counted (goal.at.with_number-row-requires c).Else-not-right_fields), i.times)
-
-pub overflow_add-p : goal.overflow_add-p
-overflow_add-p c = omega (arith, tab-within (at_tab (goal.at.overflow_add-p c).After-find-q), line-short (goal.at.overflow_add-p c).After-find-e, c.if-len-gt-TEXT.false)
-
-pub overflow_add-f : goal.overflow_add-f
-overflow_add-f c = omega (arith, field-few (at_tab (goal.at.overflow_add-f c).After-find-q) (counted (goal.at.overflow_add-f c).Else-not-right_fields))
-
-pub loop-p-smaller : goal.loop-p-smaller
-loop-p-smaller c = omega (arith, tab-within (at_tab (goal.at.loop-p-smaller c).After-find-q), c.loop-p-test.true, c.find-q.ensures)
-
-pub loop-p-preserved : goal.loop-p-preserved
-loop-p-preserved c =
-    let a = at_tab (goal.at.loop-p-preserved c).After-find-q in
-    elim c.if-f-eq1.branch [
-      | then-f-eq1+else-not-right_name w ↦ after-name a w.if-f-eq1.true (sym w.right_name.ensures ∙ w.if-not-right_name.false) _ (w.row-is ∙ rw w.name_bytes-name.ensures)
-      | else-f-eq1+in-Some w ↦ after-number a w.in-Some.v w.if-f-eq1.false (sym w.in-Some.ensures) _ (w.row-is ∙ w.with_number-row.ensures)
-    ]
-
-pub overflow_add-at : goal.overflow_add-at
-overflow_add-at c = omega (arith, end-within (at_end (goal.at.overflow_add-at c).After-find-e), c.if-len-gt-TEXT.false)
-
-pub lines-smaller : goal.lines-smaller
-lines-smaller c = omega (arith, end-within (at_end (goal.at.lines-smaller c).After-find-e), c.if-len-at.false, c.find-e.ensures)
-
-pub lines-preserved : goal.lines-preserved
-lines-preserved c = rw c.waits-waiting.ensures (after-row (at_row (goal.at.lines-preserved c).After-find-e c.loop-p.row c.if-waiting.false (counted (goal.at.lines-preserved c).Else-not-right_fields) c.loop-p.invariant.kept (fields-done c.loop-p.invariant c.loop-p-test.false)) c.if-row.false (sym c.too_long.ensures ∙ c.if-too_long.false) (sym c.named.ensures ∙ c.if-named.false))
-
-pub returns-then-len-at : goal.returns-then-len-at
-returns-then-len-at c =
-    let i = c.lines.invariant in
-    ap Ok i.kept ∙ ap reading_of (sym (all_read i c.if-len-at.true))
+pub bounds-table-n : goal.bounds-table-n
+bounds-table-n c =
+    let i = c.loop-n.invariant in
+    let a = on_line (goal.at.bounds-table-n c).In-Some-2 in
+    omega (arith, a.number, c.if-n-eq-ROWS.false, i.2.few)
 
 pub returns-then-n-eq-ROWS : goal.returns-then-n-eq-ROWS
-returns-then-n-eq-ROWS c = ap reading_of (sym (refused-many c.lines.invariant c.if-len-at.false c.if-n-eq-ROWS.true))
+returns-then-n-eq-ROWS c = ap reading_of (sym (refused-many (on_line (goal.at.returns-then-n-eq-ROWS c).In-Some-2) c.if-n-eq-ROWS.true))
 
 pub returns-then-waiting : goal.returns-then-waiting
-returns-then-waiting c =
-    let l = c.lines in
-    let a : AtEnd (text_l (goal.at.returns-then-waiting c).At-lines) l.table l.waiting l.at _ = record { line = l.invariant; here = c.if-len-at.false; room = c.if-n-eq-ROWS.false; found = refl } in
-    ap reading_of (sym (refused-waiting a c.if-waiting.true))
+returns-then-waiting c = ap reading_of (sym (refused-waiting (on_line (goal.at.returns-then-waiting c).In-Some-2) c.if-n-eq-ROWS.false c.if-waiting.true))
 
 pub returns-then-not-right_fields : goal.returns-then-not-right_fields
 returns-then-not-right_fields c =
-    let k : right_fields (length (fields (line_f (goal.at.returns-then-not-right_fields c).After-find-e))) ≡ false = ap right_fields (sym c.count_fields-k.ensures) ∙ sym c.right_fields.ensures ∙ c.if-not-right_fields.true in
-    ap reading_of (sym (refused-count (at_end (goal.at.returns-then-not-right_fields c).After-find-e) c.if-waiting.false k))
-
-pub returns-then-not-right_name : goal.returns-then-not-right_name
-returns-then-not-right_name c = ap reading_of (sym (bad-field (goal.at.returns-then-not-right_name c).After-find-q _ (refused-name (at_tab (goal.at.returns-then-not-right_name c).After-find-q) c.if-f-eq1.true (sym c.right_name.ensures ∙ c.if-not-right_name.true))))
+    let k : right_fields (length (fields c.in-Some-2.line.now)) ≡ false = ap right_fields (sym c.count_fields.ensures) ∙ sym c.right_fields.ensures ∙ c.if-not-right_fields.true in
+    ap reading_of (sym (refused-count (on_line (goal.at.returns-then-not-right_fields c).In-Some-2) c.if-n-eq-ROWS.false c.if-waiting.false k))
 
 pub returns-in-None : goal.returns-in-None
-returns-in-None c = ap reading_of (sym (bad-field (goal.at.returns-in-None c).After-find-q _ (refused-number (at_tab (goal.at.returns-in-None c).After-find-q) c.if-f-eq1.false (sym c.read.ensures ∙ c.in-None.is))))
+returns-in-None c =
+    let i = c.loop-n.invariant in
+    ap Ok i.2.kept ∙ ap reading_of (sym (all_read i.2 (no_part _ _ _ c.next.result _ _ c.next.ensures.steps c.in-None.is i.1)))
 
-pub returns-then-row : goal.returns-then-row
-returns-then-row c = ap reading_of (sym (refused-late (at_row (goal.at.returns-then-row c).After-find-e c.loop-p.row c.if-waiting.false (counted (goal.at.returns-then-row c).Else-not-right_fields) c.loop-p.invariant.kept (fields-done c.loop-p.invariant c.loop-p-test.false)) c.if-row.true))
+-- the field of a turn
+on_field : (c : In-Some-3) → OnField c.into_iter-i-iterator.result.iter.rest.now (c.in-Some-2.n + 1) c.loop-i.row c.in-Some-3.i c.in-Some-3.field.now
+on_field c =
+    let i = c.loop-i.invariant in
+    (next_field _ _ _ c.next-in-loop-i.result _ _ c.next-in-loop-i.ensures.steps c.in-Some-3.is i.2 i.3).0
+
+bad-field : (c : After-into_iter-i-iterator) (x : Refusal) → read_fields (c.in-Some-2.n + 1) 1 no_row (fields c.into_iter-i-iterator.result.iter.rest.now) ≡ bad x → read_text c.args.text.now ≡ refused x
+bad-field c x e =
+    let a = on_line (goal.at.loop-i-init c).In-Some-2 in
+    refused-field a c.if-n-eq-ROWS.false c.if-waiting.false (counted (goal.at.loop-i-init c).Else-not-right_fields) x (rw (same_line c) at e)
+
+pub name_bytes-row-requires : goal.name_bytes-row-requires
+name_bytes-row-requires c = (name-length _ (sym c.right_name.ensures ∙ c.if-not-right_name.false)).1
+
+pub with_number-row-requires : goal.with_number-row-requires
+with_number-row-requires c =
+    let a = on_field (goal.at.with_number-row-requires c).In-Some-3 in
+    let k = counted (goal.at.with_number-row-requires c).Else-not-right_fields in
+    (a.at.kept, omega (arith, c.if-f-eq1.false), field-few a (rw (same_line (goal.at.with_number-row-requires c).After-into_iter-i-iterator) k), a.at.times)
+
+pub loop-i-preserved-then-f-eq1 : goal.loop-i-preserved-then-f-eq1
+loop-i-preserved-then-f-eq1 c =
+    let i = c.loop-i.invariant in
+    let m = next_field _ _ _ c.next-in-loop-i.result _ _ c.next-in-loop-i.ensures.steps c.in-Some-3.is i.2 i.3 in
+    (c.in-Some-3.i + 1, m.0.more, m.1, after-name m.0 c.if-f-eq1.true (sym c.right_name.ensures ∙ c.if-not-right_name.false) _ (rw c.name_bytes-row.ensures))
+
+pub loop-i-preserved : goal.loop-i-preserved
+loop-i-preserved c =
+    let i = c.loop-i.invariant in
+    let m = next_field _ _ _ c.next-in-loop-i.result _ _ c.next-in-loop-i.ensures.steps c.in-Some-3.is i.2 i.3 in
+    (c.in-Some-3.i + 1, m.0.more, m.1, after-number m.0 c.in-Some-read.v c.if-f-eq1.false (sym c.in-Some-read.ensures) _ c.with_number-row.ensures)
+
+pub returns-then-not-right_name : goal.returns-then-not-right_name
+returns-then-not-right_name c =
+    let s = (goal.at.returns-then-not-right_name c).In-Some-3 in
+    ap reading_of (sym (bad-field (goal.at.returns-then-not-right_name c).After-into_iter-i-iterator _ (refused-name (on_field s) c.if-f-eq1.true (sym c.right_name.ensures ∙ c.if-not-right_name.true))))
+
+pub returns-in-None-read : goal.returns-in-None-read
+returns-in-None-read c =
+    let s = (goal.at.returns-in-None-read c).In-Some-3 in
+    ap reading_of (sym (bad-field (goal.at.returns-in-None-read c).After-into_iter-i-iterator _ (refused-number (on_field s) c.if-f-eq1.false (sym c.read.ensures ∙ c.in-None-read.is))))
+
+-- once all fields of the line are read
+done : (c : In-None-2) → Kept c.loop-i.row × (read_fields (c.in-Some-2.n + 1) 1 no_row (fields c.into_iter-i-iterator.result.iter.rest.now) ≡ got (row_of c.loop-i.row))
+done c =
+    let i = c.loop-i.invariant in
+    (i.3.kept, fields-done i.3 (no_part _ _ _ c.next-in-loop-i.result _ _ c.next-in-loop-i.ensures.steps c.in-None-2.is i.2))
+
+abbrev at_row : (c : After-into_iter-i-iterator) (w : RowValue) → Kept w × (read_fields (c.in-Some-2.n + 1) 1 no_row (fields c.into_iter-i-iterator.result.iter.rest.now) ≡ got (row_of w))
+    → AtRow c.args.text.now c.loop-n.table c.loop-n.waiting c.in-Some-2.n c.in-Some-2.line.now w
+at_row c w h =
+    record {
+      on = on_line (goal.at.loop-i-init c).In-Some-2;
+      room = c.if-n-eq-ROWS.false;
+      only = c.if-waiting.false;
+      count = counted (goal.at.loop-i-init c).Else-not-right_fields;
+      kept = h.0;
+      row = rw (same_line c) at h.1;
+    }
+
+pub returns-then-lt : goal.returns-then-lt
+returns-then-lt c = ap reading_of (sym (refused-late (at_row (goal.at.returns-then-lt c).After-into_iter-i-iterator c.loop-i.row (done (goal.at.returns-then-lt c).In-None-2)) (search (rules, tests))))
 
 pub returns-then-too_long : goal.returns-then-too_long
-returns-then-too_long c = ap reading_of (sym (refused-long (at_row (goal.at.returns-then-too_long c).After-find-e c.loop-p.row c.if-waiting.false (counted (goal.at.returns-then-too_long c).Else-not-right_fields) c.loop-p.invariant.kept (fields-done c.loop-p.invariant c.loop-p-test.false)) c.if-row.false (sym c.too_long.ensures ∙ c.if-too_long.true)))
+returns-then-too_long c = ap reading_of (sym (refused-long (at_row (goal.at.returns-then-too_long c).After-into_iter-i-iterator c.loop-i.row (done (goal.at.returns-then-too_long c).In-None-2)) (search (rules, tests)) (sym c.too_long.ensures ∙ c.if-too_long.true)))
 
 pub returns-then-named : goal.returns-then-named
-returns-then-named c = ap reading_of (sym (refused-taken (at_row (goal.at.returns-then-named c).After-find-e c.loop-p.row c.if-waiting.false (counted (goal.at.returns-then-named c).Else-not-right_fields) c.loop-p.invariant.kept (fields-done c.loop-p.invariant c.loop-p-test.false)) c.if-row.false (sym c.too_long.ensures ∙ c.if-too_long.false) (sym c.named.ensures ∙ c.if-named.true)))
+returns-then-named c = ap reading_of (sym (refused-taken (at_row (goal.at.returns-then-named c).After-into_iter-i-iterator c.loop-i.row (done (goal.at.returns-then-named c).In-None-2)) (search (rules, tests)) (sym c.too_long.ensures ∙ c.if-too_long.false) (sym c.named.ensures ∙ c.if-named.true)))
+
+pub loop-n-preserved : goal.loop-n-preserved
+loop-n-preserved c =
+    let i = c.loop-n.invariant in
+    let m = next_line _ _ _ c.next.result _ _ c.next.ensures.steps c.in-Some-2.is i.1 i.2 in
+    (m.0.more, m.1, rw c.waits-waiting.ensures (after-row (at_row (goal.at.loop-n-preserved c).After-into_iter-i-iterator c.loop-i.row (done (goal.at.loop-n-preserved c).In-None-2)) (search (rules, tests)) (sym c.too_long.ensures ∙ c.if-too_long.false) (sym c.named.ensures ∙ c.if-named.false)))

@@ -1,17 +1,12 @@
--- `read` meets its contract: what is left of the text, below the rows so far, and what is left of the line, behind the fields so far, decide.
-use Prim.Native.Nat.{◌+◌, ◌-◌}
-use lib.ListN.{length}
+-- `read` meets its contract: the lines left, below the rows so far, and the fields left of the line, behind those so far, decide.
+use mathlib.Core.List.{List}
+use Prim.Native.Nat.{ℕ}
+use Rattle.text.proofs.Parts.{Parts}
 use Rattle.text.proofs.Reader.{AtLine, AtField}
 use Rattle.text.proofs.read.Given as goal
 
-abbrev pub invariant-loop-p : goal.invariant-loop-p
-invariant-loop-p l = AtField l.line l.number l.row l.f l.p
+abbrev pub invariant-loop-i : goal.invariant-loop-i
+invariant-loop-i l = (k : ℕ) × (left : List (List ℕ)) × Parts (goal.iterator-loop-i).next_gives l.i-iterator k left × AtField l.initial.i-iterator.iter.rest.now l.number l.row k left
 
-abbrev pub decreases-loop-p : goal.decreases-loop-p
-decreases-loop-p l = length l.line + 1 - l.p
-
-abbrev pub invariant-lines : goal.invariant-lines
-invariant-lines l = AtLine l.text l.table l.waiting l.at
-
-abbrev pub decreases-lines : goal.decreases-lines
-decreases-lines l = length l.text + 1 - l.at
+abbrev pub invariant-loop-n : goal.invariant-loop-n
+invariant-loop-n l = (left : List (List ℕ)) × Parts (goal.iterator-loop-n).next_gives l.n-iterator l.table.len left × AtLine l.text l.table l.waiting left

@@ -16,8 +16,8 @@ use Rattle.lines.proofs.Line.len.Goals.{in-Some, in_default}
 pub loop-field-init : goal.loop-field-init
 loop-field-init c =
     let n : length c.args.self.head ≡ 12 = search rules in
-    let e = c.head_len-len.ensures in
-    (omega (arith, head-length c.args.self.head c.head_len-len.result e, fields-none), omega (arith, head-short c.args.self.head c.head_len-len.result e))
+    let e = c.used-len.ensures in
+    (omega (arith, head-length c.args.self.head c.used-len.result e, fields-none), omega (arith, head-short c.args.self.head c.used-len.result e))
 
 pub loop-field-preserved : goal.loop-field-preserved
 loop-field-preserved c =

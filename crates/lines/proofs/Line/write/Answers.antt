@@ -20,14 +20,14 @@ use Rattle.lines.proofs.Line.write.Goals as goal
 
 pub copy-at-requires : goal.copy-at-requires
 copy-at-requires c =
-    let e = ap length (head-taken c.args.self.head c.head_len-len.result c.head_len-len.ensures) in
+    let e = ap length (head-taken c.args.self.head c.used-len.result c.used-len.ensures) in
     omega (arith, e, before-room c.args.self 0, length-append (up_to 0 c.args.self.head) (fields_text []))
 
 pub loop-field-init : goal.loop-field-init
 loop-field-init c =
     let s = c.args.self.head in
-    let t = take c.head_len-len.result s in
-    let e : t ≡ up_to 0 s = head-taken s c.head_len-len.result c.head_len-len.ensures in
+    let t = take c.used-len.result s in
+    let e : t ≡ up_to 0 s = head-taken s c.used-len.result c.used-len.ensures in
     let h : length t ≤ length c.args.out.now = omega (arith, ap length e, before-room c.args.self 0, length-append (up_to 0 s) (fields_text [])) in
     put-start (up_to 0 s) (rw e at (put-over t c.args.out.now _ _ c.copy-at.ensures.0 (c.copy-at.ensures.1 ∙ copied t c.args.out.now (length t) refl) h))
 

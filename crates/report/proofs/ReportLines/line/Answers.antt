@@ -1,10 +1,9 @@
 -- `Report::line` meets its contract: the line of a row, or behind them the last line.
-use mathlib.Core.Path.{◌≡◌, sym, ◌∙◌}
+use mathlib.Core.Path.{◌≡◌, sym, ap, ◌∙◌}
 use Prim.Native.Nat.{◌<◌, min}
 use native.Mathlib.Omega.{arith}
-use lib.ListN.{length, get_or}
+use lib.ListN.{get_or}
 use Rattle.std.specs.Prelude.{Result, Ok, Err}
-use borrow.Author.Rules.{rules}
 use mathlib.Core.List.{[]}
 use Rattle.refusals.specs.declared.Refusal.{Refusal}
 use Rattle.figures.specs.declared.RowFigures.{RowFigures}
@@ -12,21 +11,20 @@ use Rattle.table.specs.Limits.{most_rows}
 use Rattle.table.specs.Value.{no_value}
 use Rattle.lines.proofs.Laws.{lines-count-last, line-at-front, line-at-last}
 use Rattle.report.specs.Report.{last_line}
-use Rattle.report.specs.Parts.{said_line, report_lines}
-use Rattle.report.proofs.Tables.{behind, said_at, said_is}
+use Rattle.report.specs.Parts.{behind, said_line, said_at, report_lines}
 use Rattle.report.proofs.ReportLines.line.Goals.{Else-i-rows}
 use Rattle.report.proofs.ReportLines.line.Goals as goal
 
 pub returns-then-i-rows : goal.returns-then-i-rows
 returns-then-i-rows c =
     let r = c.args.self.now in
-    c.last_line.ensures ∙ sym (line-at-last (said_at r) (min r.table.len most_rows) (last_line r.figures.verdict) c.args.i (c.if-i-rows.true ∙ c.rows.ensures))
+    c.last_line.ensures ∙ sym (line-at-last (said_at r.table.now r.figures.now) (min r.table.now.len most_rows) (last_line r.figures.now.verdict) c.args.i (c.if-i-rows.true ∙ c.rows.ensures))
 
 -- the place is that of a row
-within : (c : Else-i-rows) → c.args.i < min c.args.self.now.table.len most_rows
+within : (c : Else-i-rows) → c.args.i < min c.args.self.now.table.now.len most_rows
 within c =
     let r = c.args.self.now in
-    omega (arith, lines-count-last (said_at r) (min r.table.len most_rows) (last_line r.figures.verdict), c.if-i-rows.false)
+    omega (arith, lines-count-last (said_at r.table.now r.figures.now) (min r.table.now.len most_rows) (last_line r.figures.now.verdict), c.if-i-rows.false)
 
 pub offset_bounds-self-i : goal.offset_bounds-self-i
 offset_bounds-self-i c = omega (arith, within c)
@@ -41,19 +39,15 @@ pub bounds-self-i-2 : goal.bounds-self-i-2
 bounds-self-i-2 c = omega (arith, within (goal.at.bounds-self-i-2 c).Else-i-rows)
 
 -- the line at that place is what is said of the row
-row-at : (c : Else-i-rows) (a : Result RowFigures Refusal) → length c.args.self.now.figures.rows ≡ most_rows → get_or c.args.self.now.figures.rows c.args.i behind ≡ a
-    → said_line (get_or c.args.self.now.table.rows c.args.i no_value) a ≡ get_or (report_lines c.args.self.now) c.args.i []
-row-at c a n e =
-    let r = c.args.self.now in
-    let h = within c in
-    said_is r c.args.i a (omega (arith, h)) e ∙ sym (line-at-front (said_at r) (min r.table.len most_rows) (last_line r.figures.verdict) c.args.i h)
+row-at : (c : Else-i-rows) (a : Result RowFigures Refusal) → get_or c.args.self.now.figures.now.rows c.args.i behind ≡ a
+    → said_line (get_or c.args.self.now.table.now.rows c.args.i no_value) a ≡ get_or (report_lines c.args.self.now.table.now c.args.self.now.figures.now) c.args.i []
+row-at c a e =
+    let v = c.args.self.now.table.now in
+    let f = c.args.self.now.figures.now in
+    ap (said_line (get_or v.rows c.args.i no_value)) (sym e) ∙ sym (line-at-front (said_at v f) (min v.len most_rows) (last_line f.verdict) c.args.i (within c))
 
 pub returns-in-Ok : goal.returns-in-Ok
-returns-in-Ok c =
-    let n : length c.args.self.now.figures.rows ≡ most_rows = search rules in
-    c.row_line.ensures ∙ row-at (goal.at.returns-in-Ok c).Else-i-rows (Ok c.in-Ok.figures) n c.in-Ok.is
+returns-in-Ok c = c.row_line.ensures ∙ row-at (goal.at.returns-in-Ok c).Else-i-rows (Ok c.in-Ok.figures) c.in-Ok.is
 
 pub returns-in-Err : goal.returns-in-Err
-returns-in-Err c =
-    let n : length c.args.self.now.figures.rows ≡ most_rows = search rules in
-    c.of.ensures ∙ row-at (goal.at.returns-in-Err c).Else-i-rows (Err c.in-Err.field-0) n c.in-Err.is
+returns-in-Err c = c.of.ensures ∙ row-at (goal.at.returns-in-Err c).Else-i-rows (Err c.in-Err.field-0) c.in-Err.is

@@ -7,4 +7,4 @@ use Rattle.runs.specs.Parts.{line_at}
 use Rattle.runs.proofs.RunLines.count.Goals as goal
 
 pub returns : goal.returns
-returns c = let r = c.args.self.now in c.min.ensures ∙ sym (lines-count (line_at r.table.rows r.firsts) (min r.table.len most_rows))
+returns c = let r = c.args.self.now in c.min.ensures ∙ sym (lines-count (line_at r.table.now.rows r.firsts.now) (min r.table.now.len most_rows))

@@ -18,10 +18,10 @@ use Rattle.runs.proofs.RunLines.line.Goals.{Start}
 use Rattle.runs.proofs.RunLines.line.Goals as goal
 
 -- the place is that of a row
-within : (c : Start) → c.args.i < min c.args.self.now.table.len most_rows
+within : (c : Start) → c.args.i < min c.args.self.now.table.now.len most_rows
 within c =
     let r = c.args.self.now in
-    omega (arith, lines-count (line_at r.table.rows r.firsts) (min r.table.len most_rows))
+    omega (arith, lines-count (line_at r.table.now.rows r.firsts.now) (min r.table.now.len most_rows))
 
 pub offset_bounds-self-i : goal.offset_bounds-self-i
 offset_bounds-self-i c = omega (arith, within c)
@@ -43,9 +43,9 @@ first-same None = refl
 pub returns : goal.returns
 returns c =
     let r = c.args.self.now in
-    let o = get_or r.firsts c.args.i None in
-    let name = (row_of (get_or r.table.rows c.args.i no_value)).name in
+    let o = get_or r.firsts.now c.args.i None in
+    let name = (row_of (get_or r.table.now.rows c.args.i no_value)).name in
     let k : c.map-first.result ≡ option_map (λ i. i.0) o = search rules in
     let f : field_text c.from.result ≡ first_text o = ap field_text (c.from.ensures ∙ ap field_of k) ∙ first-same o in
     c.of.ensures ∙ ap (λ l. line name (l ∷ [])) f
-    ∙ sym (line-at (line_at r.table.rows r.firsts) (min r.table.len most_rows) c.args.i (within (goal.at.returns c).Start))
+    ∙ sym (line-at (line_at r.table.now.rows r.firsts.now) (min r.table.now.len most_rows) c.args.i (within (goal.at.returns c).Start))

@@ -8,5 +8,5 @@ use Rattle.text.proofs.RowsLines.count.Goals as goal
 
 pub returns : goal.returns
 returns c =
-    let t = c.args.self.now.table in
+    let t = c.args.self.now.table.now in
     c.min.ensures ∙ sym (lines-count (line_at t.rows) (min t.len most_rows))

@@ -9,9 +9,9 @@ use Rattle.text.proofs.RowsLines.line.Goals.{Start}
 use Rattle.text.proofs.RowsLines.line.Goals as goal
 
 -- the place is that of a row
-within : (c : Start) → c.args.i < min c.args.self.now.table.len most_rows
+within : (c : Start) → c.args.i < min c.args.self.now.table.now.len most_rows
 within c =
-    let t = c.args.self.now.table in
+    let t = c.args.self.now.table.now in
     omega (arith, lines-count (line_at t.rows) (min t.len most_rows))
 
 pub offset_bounds-self-i : goal.offset_bounds-self-i
@@ -22,5 +22,5 @@ bounds-self-i c = omega (arith, within (goal.at.bounds-self-i c).Start)
 
 pub returns : goal.returns
 returns c =
-    let t = c.args.self.now.table in
+    let t = c.args.self.now.table.now in
     c.line.ensures ∙ sym (line-at (line_at t.rows) (min t.len most_rows) c.args.i (within (goal.at.returns c).Start))
