@@ -85,6 +85,24 @@ length_some n = go (dec_lt n 10)
     go (yes h) = omega (arith, length-small n h)
     go (no h) = omega (arith, length-big n (omega arith))
 
+-- no power of ten is 0
+ten-power : (k : ℕ) → 1 ≤ 10 ^ k
+ten-power zero = omega arith
+ten-power (suc k) = omega (arith, pow-suc 10 k, ten-power k)
+
+-- a number of ten to the k or more has more than k digits
+pub length-above : (k n : ℕ) → 10 ^ k ≤ n → suc k ≤ length (digits n)
+length-above zero n h = length_some n
+length-above (suc k) n h =
+    let p : 10 ^ suc k ≡ 10 ^ k * 10 = pow-suc 10 k in
+    let o : 1 ≤ 10 ^ k = ten-power k in
+    let g : 10 ^ k * 10 ≤ n = rw p at h in
+    omega (arith, length-big n (omega arith), length-above k (n / 10) (omega arith))
+
+-- a number from ten to the k and below ten times that has k + 1 digits
+pub length-between : (k n : ℕ) → 10 ^ k ≤ n → n < 10 * 10 ^ k → k + 1 ≡ length (digits n)
+length-between k n h b = omega (arith, length-above k n h, length-below k n (omega (arith, pow-suc 10 k, b)))
+
 -- a greater number has no fewer digits
 pub length-grows : (m n : ℕ) → n ≤ m → length (digits n) ≤ length (digits m)
 length-grows = by-last-digit (λ m. (n : ℕ) → n ≤ m → length (digits n) ≤ length (digits m)) small big

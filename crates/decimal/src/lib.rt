@@ -20,7 +20,7 @@ pub fn read(bytes: &[u8], lo: u64, hi: u64) -> Option<u64>
         if !b.is_ascii_digit() {
             return None;
         }
-        // The number so far is held to hi, so that no sum leaves 64 bits, however many digits follow.
+        // A sum that would leave 64 bits is above any hi. The number so far is held to hi, so that the digits that follow cannot matter.
         v = v.checked_mul(10)?.checked_add(u64::from(*b - b'0'))?;
         if hi < v {
             return None;
@@ -32,18 +32,14 @@ pub fn read(bytes: &[u8], lo: u64, hi: u64) -> Option<u64>
     Some(v)
 }
 
-// How many digits n has.
+// How many digits n has: 0 has one, though no power of ten is in it.
 pub fn width(n: u64) -> usize
     ensures { result ≡ length (digits n) }
 {
-    // No index is counted here: what is left of the number decides, and a `for` would need the count that is sought.
-    let mut w: usize = 1;
-    let mut rest = n;
-    while 10 <= rest {
-        rest = rest / 10;
-        w += 1;
+    match n.checked_ilog10() {
+        Some(tens) => tens as usize + 1,
+        None => 1,
     }
-    w
 }
 
 // Writes the digits of n at the front of out and answers how many there are; where out is too short for all of them, 0, and out stays as it was.

@@ -27,7 +27,7 @@ pub struct RowFigures {
     pub rounds: u64,
 }
 
-// The figures of a whole table: its verdict, and the answer about each row; 21 behind the last row.
+// The figures of a whole table: its verdict, and the answer about each row; 21 behind the last row (fixed memory, so no Vec).
 #[derive(Clone, Copy)]
 pub struct TableFigures {
     pub verdict: TableVerdict,
@@ -41,9 +41,10 @@ struct Worked {
     rounds: u64,
 }
 
-// That a row is kept stays a clause: a type for such rows would have to be made, row by row, of each table that was tested whole.
+// That a row is kept stays a clause: the rows are lent as they stand in the table, and a type that says so of each would take a second copy of
+// them.
 
-// All C of a row: every other of its times.
+// All C of a row: every other of its times. `step_by` was tried here, and the proof did not close.
 fn work_of(row: &Row) -> u64
     requires { Kept row.now }
     ensures { result ≡ work (parts (row_of row.now).times) }
@@ -65,7 +66,7 @@ fn own_of(row: &Row) -> u64
     row.times.iter().map(|time| time.0).sum()
 }
 
-// The loads of rows, and others behind them that ask for nothing.
+// The loads of rows, and others behind them that ask for nothing (fixed memory, so no Vec).
 fn loads_of(rows: &[Row]) -> [Load; Table::ROWS]
     requires { (length rows.now ≤ most_rows) × ((i : ℕ) → i < length rows.now → Kept (get_or rows.now i no_value)) }
     ensures { Loaded rows.now result }
@@ -129,7 +130,7 @@ fn solve(above: &mut [Load], c: u64, d: u64) -> Worked
     }
 }
 
-// The recurrence for each C by itself, and the sum of the results and all S.
+// The recurrence for each C by itself, and the sum of the results and all S: the two take turns, so that `step_by` would need two loops.
 fn split_of(above: &mut [Load], row: &Row) -> Worked
     requires { (length above.old ≤ most_rows) × Kept row.now }
     ensures split { result ≡ split_worked above.old (row_of row.now) }

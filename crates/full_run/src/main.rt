@@ -17,8 +17,8 @@ fn ticks<V: Env>(env: &V) -> Option<u64> {
     decimal::read(&digits[..len], 0, u64::MAX)
 }
 
-// Reads a text, and writes its full run. What it has in common with `check_table` is no function: that would take a closure, and with it a
-// `requires`, which no public function but `buffers::copy` has.
+// Reads a text, and writes its full run. What it has in common with `check_table` is no function: that would take a closure with a `requires`
+// about it, for the six lines that are alike.
 fn run<R: Read, W: Write, E: Write>(
     stdin: &mut R,
     stdout: &mut W,

@@ -20,7 +20,7 @@ pub enum Field {
     Hyphen,
 }
 
-// A line: its first field, with zeros behind it, and the others, of which those that are not there are left out.
+// A line: its first field, with zeros behind it, and the others, of which those that are not there are left out. Fixed memory: no Vec.
 #[derive(Clone, Copy)]
 pub struct Line {
     pub head: [u8; Line::HEAD],
@@ -94,6 +94,7 @@ impl Line {
     pub fn of(head: [u8; Line::HEAD], fields: &[Field]) -> Line
         ensures { line_of result ≡ line (up_to 0 head) (map field_text (take most_fields fields.now)) }
     {
+        // An index, since two slices are walked at once: `zip` would say it no plainer.
         let mut behind = [None; Line::FIELDS];
         for i in 0..Line::FIELDS.min(fields.len()) {
             behind[i] = Some(fields[i]);
@@ -109,6 +110,7 @@ impl Line {
         ensures { result ≡ length (line_of self) }
     {
         let mut len = buffers::used(&self.head, 0);
+        // `if let` here and in `write`: `flatten` hides which field it is at, and the proofs go by that.
         for field in &self.fields {
             if let Some(f) = field {
                 len += 1 + f.len();

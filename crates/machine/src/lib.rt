@@ -13,7 +13,7 @@ use refusals::Refusal;
 use table::{Row, Table};
 use ticks::{Instant, Length};
 
-// The time at a place of a row, C1 at 0; 0 behind the last.
+// The time at a place of a row, C1 at 0; 0 behind the last. No Option: the row itself has zeros behind its times, as document 01 wants it.
 fn time_at(row: &Row, place: usize) -> Length
     ensures { result.0 ≡ time_at row.now place }
 {
@@ -91,6 +91,7 @@ struct Machine {
     now: Instant,
     // The row that ran in the last tick.
     ran: Option<usize>,
+    // Fixed memory: one for each row, and behind them others that no tick looks at.
     cells: [Cell; Table::ROWS],
 }
 
@@ -153,7 +154,7 @@ fn firsts_of(rows: &[Row], ticks: u64) -> [Option<Instant>; Table::ROWS]
     firsts
 }
 
-// For each row the completion of its first job within the given ticks, if it is complete by then; none behind the last row.
+// For each row the completion of its first job within the given ticks, if it is complete by then; none behind the last row (fixed memory, so no Vec).
 #[tactic(auto, using(crate::proofs::Completions::run_steps), unfolding(crate::specs::Run::full_run))]
 pub fn full_run(t: Table, ticks: u64) -> Result<[Option<Instant>; Table::ROWS], Refusal>
     ensures { result ≡ full_run t ticks }

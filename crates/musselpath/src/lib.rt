@@ -46,7 +46,7 @@ fn first_number(first: Option<Instant>) -> u64
     }
 }
 
-// The completions of the first n rows, as numbers at the front of out.
+// Completions, as numbers at the front of out.
 fn put_instants(firsts: &[Option<Instant>], out: &mut [u64])
     requires { length firsts.now ≤ length out.old }
     ensures { out.new ≡ over (numbers_of firsts.now) out.old }

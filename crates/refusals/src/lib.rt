@@ -48,7 +48,7 @@ impl Refusal {
         }
     }
 
-    // The line, from 1; 0 where the reason has none.
+    // The line, from 1; 0 where the reason has none, as document 01 and the C interface have it: no Option.
     pub fn line(self) -> usize
         ensures { result ≡ line_of self }
     {
@@ -71,7 +71,7 @@ impl Refusal {
         }
     }
 
-    // The field, from 1; 0 where the reason has none.
+    // The field, from 1; 0 where the reason has none, as above.
     pub fn field(self) -> usize
         ensures { result ≡ field_of self }
     {

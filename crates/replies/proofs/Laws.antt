@@ -9,6 +9,7 @@ use lib.ListN.{length, take, drop, length-drop}
 use lib.Seq.{length-take-le, take_all}
 use borrow.Author.Tests.{lt-ltb, le-ltb}
 use Rattle.std.specs.Prelude.{Some, None, Result, Ok, Err}
+use Rattle.std.specs.Result.{result_unwrap_or}
 use Rattle.words.specs.Buffer.{over, placed}
 use Rattle.words.proofs.Buffer.{over-nil, length_over, placed-fits}
 use Rattle.words.proofs.Choice.{if-true, if-false}
@@ -43,6 +44,10 @@ module _ (bs d x : List ℕ) (w : Result ℕ Refusal) (room : length bs ≤ leng
 
   pub put-never-refused : (why : Refusal) → w ≡ Err why → ⊥
   put-never-refused why b = refused_none _ _ (sym b ∙ e ∙ length_whole bs d room)
+
+  -- and that is what is answered
+  pub put-whole_or : (result_unwrap_or w 0 ≡ length bs) × (x ≡ over bs d)
+  put-whole_or = (rw (e ∙ length_whole bs d room) refl, p ∙ placed-fits bs d room)
 
 -- the run of a text in a buffer that has room for every answer
 

@@ -32,15 +32,12 @@ pub enum Kind {
     Run,
 }
 
-// The line of a refusal.
+// The line of a refusal. Here and in the next two the buffer has room, so that the 0 behind `unwrap_or` is never answered.
 fn line_of(why: Refusal, out: &mut [u8]) -> usize
     requires { length (refused_line why) ≤ length out.old }
     ensures { (result ≡ length (refused_line why)) × (out.new ≡ over (refused_line why) out.old) }
 {
-    match refused::write(why, out) {
-        Ok(len) => len,
-        Err(_) => 0,
-    }
+    refused::write(why, out).unwrap_or(0)
 }
 
 // The text of a well-formed table.
@@ -48,10 +45,7 @@ fn table_text(table: Table, out: &mut [u8]) -> usize
     requires { (well_formed table ≡ true) × (length (table_text (table_of table)) ≤ length out.old) }
     ensures { (result ≡ length (table_text (table_of table))) × (out.new ≡ over (table_text (table_of table)) out.old) }
 {
-    match text::write(table, out) {
-        Ok(len) => len,
-        Err(_) => 0,
-    }
+    text::write(table, out).unwrap_or(0)
 }
 
 // The report of a text, or the line of its refusal.
@@ -59,10 +53,7 @@ pub fn report_of(text: &[u8], out: &mut [u8; LONGEST]) -> usize
     ensures value { (result ≡ length (answer_text text.now)) × (out.new ≡ over (answer_text text.now) out.old) }
     ensures front { Front result out.new }
 {
-    match report::answer(text, out) {
-        Ok(report_len) => report_len,
-        Err(_) => 0,
-    }
+    report::answer(text, out).unwrap_or(0)
 }
 
 // The full run of a text, or the line of a refusal.

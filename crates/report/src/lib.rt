@@ -31,7 +31,8 @@ fn figure_of(verdict: Verdict) -> Option<Length>
     }
 }
 
-// A figure as a field. This and the next two are no `From`: both types stand in other crates.
+// A figure as a field. This and the next two are no `From`: that would have to stand in `lines` or `verdicts`, of which neither knows the other,
+// and how a verdict is written is the report's matter.
 fn figure_field(figure: Option<Length>) -> Field
     ensures { field_text result ≡ figure_text figure }
 {
@@ -49,7 +50,7 @@ fn verdict_field(verdict: Verdict) -> Field
     }
 }
 
-// The verdict of a table as a field.
+// The verdict of a table as a field. It is a function of its own: of one verdict, the other would be made by the same three arms.
 fn table_field(verdict: TableVerdict) -> Field
     ensures { field_text result ≡ table_word verdict }
 {

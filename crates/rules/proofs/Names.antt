@@ -1,37 +1,38 @@
 -- Laws of names and numbers, as the tests in code go by them.
-use mathlib.Core.Path.{◌≡◌, ◌∙◌}
-use mathlib.Core.Bool.{true, false}
+use mathlib.Core.Path.{◌≡◌, refl, ◌∙◌}
+use mathlib.Core.Bool.{Bool, true, false}
 use mathlib.Core.List.{List}
 use Prim.Native.Nat.{ℕ, ◌≤◌, ◌<◌}
-use native.Mathlib.Omega.{arith}
-use lib.Dec.{leb}
+use lib.Dec.{leb, eqb}
+use mathlib.Core.Logic.{◌⊎◌, inl, inr}
+use Rattle.std.specs.Prelude.{MatchBool}
 use lib.ListN.{length}
-use borrow.Author.Tests.{ne_eqb, le-leb, lt-leb}
+use borrow.Author.Tests.{le-leb, lt-leb}
 use Rattle.words.specs.Choice.{◌and◌, ◌or◌}
 use Rattle.words.specs.Lists.{all}
-use Rattle.words.proofs.Choice.{and-true, and-false, and-last-false, or_nothing}
+use Rattle.words.proofs.Choice.{and-true, and-false, and-last-false, or-true, or-false}
 use Rattle.table.specs.Limits.{longest_name}
 use Rattle.table.specs.Paper.{name_byte, right_name, right_number}
 
-pub byte-hyphen : (b : ℕ) → b ≡ 45 → name_byte b ≡ true
-unfolding name_byte ◌and◌ ◌or◌
-byte-hyphen b e = rw e
+-- b is between lo and hi, or it isn't, as a test of the library says
+abbrev pub Tested : Bool → ℕ → ℕ → ℕ → Type 0
+Tested t lo hi b = MatchBool t ((lo ≤ b) × (b ≤ hi)) ((b < lo) ⊎ (hi < b))
 
-pub byte_low : (b : ℕ) → (b ≡ 45 → ⊥) → b < 48 → name_byte b ≡ false
-unfolding name_byte ◌and◌ ◌or◌
-byte_low b n h = rw (lt-leb 97 b (omega arith), lt-leb 48 b h, ne_eqb b 45 n)
+-- what a test of the library says of a byte
+in-range : (b lo hi : ℕ) (t : Bool) → Tested t lo hi b → (leb lo b and leb b hi) ≡ t
+in-range b lo hi true h = and-true _ (le-leb lo b h.0) ∙ le-leb b hi h.1
+in-range b lo hi false (inl h) = and-false _ (lt-leb lo b h)
+in-range b lo hi false (inr h) = and-last-false (leb lo b) (lt-leb b hi h)
 
-pub byte-digit : (b : ℕ) → 48 ≤ b → b ≤ 57 → name_byte b ≡ true
-unfolding name_byte ◌and◌ ◌or◌
-byte-digit b l u = rw (lt-leb 97 b (omega arith), le-leb 48 b l, le-leb b 57 u)
+-- a letter, or else a digit, or else a hyphen
+pub letter_byte : (b : ℕ) (l : Bool) → Tested l 97 122 b → l ≡ true → name_byte b ≡ true
+unfolding name_byte
+letter_byte b l p e = or-true _ (in-range b 97 122 l p ∙ e)
 
-pub byte-between : (b : ℕ) → (b ≡ 45 → ⊥) → 57 < b → b < 97 → name_byte b ≡ false
-unfolding name_byte ◌and◌ ◌or◌
-byte-between b n l u = rw (lt-leb 97 b u, le-leb 48 b (omega arith), lt-leb b 57 l, ne_eqb b 45 n)
-
-pub byte-letter : (b : ℕ) → (b ≡ 45 → ⊥) → 97 ≤ b → name_byte b ≡ leb b 122
-unfolding name_byte ◌and◌ ◌or◌
-byte-letter b n l = rw (le-leb 97 b l, le-leb 48 b (omega arith), lt-leb b 57 (omega arith), ne_eqb b 45 n) (or_nothing (leb b 122))
+pub other_byte : (b : ℕ) (l d : Bool) → Tested l 97 122 b → Tested d 48 57 b → l ≡ false
+    → name_byte b ≡ (d or eqb b 45)
+unfolding name_byte
+other_byte b l d p q e = or-false _ (in-range b 97 122 l p ∙ e) ∙ rw (in-range b 48 57 d q) refl
 
 pub name-short : (bs : List ℕ) → length bs < 1 → right_name bs ≡ false
 unfolding right_name

@@ -14,19 +14,7 @@ use ticks::Length;
 fn name_byte(b: u8) -> bool
     ensures { result ≡ name_byte b }
 {
-    if b == b'-' {
-        return true;
-    }
-    if b < b'0' {
-        return false;
-    }
-    if b <= b'9' {
-        return true;
-    }
-    if b < b'a' {
-        return false;
-    }
-    b <= b'z'
+    b.is_ascii_lowercase() || b.is_ascii_digit() || b == b'-'
 }
 
 fn name_bytes(bytes: &[u8]) -> bool

@@ -44,7 +44,7 @@ fn name_bytes(field: &[u8]) -> [u8; Table::NAME]
     name
 }
 
-// The row with the number of field f: T, D, then the times one after another.
+// The row with the number of field f: T, D, then the times one after another. f counts the fields of a line, as refusal 8 does, and is no kind.
 fn with_number(mut row: Row, f: usize, n: u64) -> Row
     requires { (row ≡ row_value (row_of row)) × (2 ≤ f) × (f ≤ most_times + fixed_fields) × (length (row_of row).times ≡ f - suc fixed_fields) }
     ensures { result ≡ row_value (with_number (row_of row) f n) }
@@ -142,6 +142,7 @@ struct Rows<'a> {
 impl Lines for Rows<'_> {
     ghost lines = { λ r. row_lines r.table.now };
 
+    // Here, in the report and in the run: `min` is all that they have in common, and a name for it would be no shorter.
     fn count(&self) -> usize {
         self.table.len.min(Table::ROWS)
     }

@@ -6,7 +6,7 @@ use std::io::{Stderr, Stdout};
 use table::{Row, Table};
 use ticks::Length;
 
-// A name as a row keeps it: zeros behind its bytes.
+// A name as a row keeps it: zeros behind its bytes. No `buffers::copy`: that needs to know that the word is short.
 fn name(word: &str) -> [u8; 12] {
     let mut kept = [0u8; 12];
     for (to, from) in kept.iter_mut().zip(word.as_bytes()) {

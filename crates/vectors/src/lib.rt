@@ -56,12 +56,13 @@ fn answer<W: Write, E: Write>(
     kind: Kind,
     item: &[u8],
 ) -> Result<(), Trouble> {
+    // Fixed memory, as everywhere here: a buffer, and how much of it is used.
     let mut out = [0u8; replies::LONGEST];
     let len = replies::reply(kind, item, &mut out).ok_or(Trouble::Broken)?;
     output::put(stdout, stderr, &out[..len]).map_err(|_| Trouble::Unwritten)
 }
 
-// Answers each item of the stream, and counts those that were answered.
+// Answers each item of the stream, and counts those that were answered: the count is lent, since it is told where there is trouble too.
 // The three streams are no struct: `answer_all` is lent them one by one, and would make one for this call alone.
 fn answer_each<R: Read, W: Write, E: Write>(
     stdin: &mut R,
@@ -73,7 +74,7 @@ fn answer_each<R: Read, W: Write, E: Write>(
     requires { answered.old ≡ 0 }
     ensures { answered.new ≤ 100000 }
 {
-    // Fixed memory, as everywhere here: a buffer, and how much of it is used.
+    // Fixed memory, as above.
     let mut item = [0u8; ITEM];
     for n in 0..ITEMS {
         let Some(len) = streams::next(stdin, &mut item)? else {
@@ -89,7 +90,7 @@ fn answer_each<R: Read, W: Write, E: Write>(
 }
 
 // Answers each item of the stream, and says how many were answered.
-// `kind` is no closure: that takes a `requires`, which no public function but `buffers::copy` has, and `replies::reply` keeps its kinds.
+// `kind` is no closure: that proves, but takes a `requires` about the closure, and this function asks nothing of its callers.
 pub fn answer_all<R: Read, W: Write, E: Write>(
     stdin: &mut R,
     stdout: &mut W,

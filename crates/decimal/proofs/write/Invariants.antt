@@ -1,8 +1,7 @@
 -- `decimal::write` meets its contract: the digits that are left of the number stand before those written so far.
 use mathlib.Core.Path.{◌≡◌}
 use mathlib.Core.List.{◌++◌}
-use Prim.Native.Nat.{◌≤◌}
-use lib.ListN.{length, drop}
+use lib.ListN.{drop}
 use Rattle.decimal.specs.Decimal.{digits}
 use Rattle.decimal.proofs.Digits.{ends}
 use Rattle.decimal.proofs.write.Given as goal

@@ -6,7 +6,7 @@ use lib.ListN.{length}
 use Rattle.table.specs.Limits.{longest_text}
 use Rattle.report.specs.Report.{answer_text}
 use Rattle.replies.proofs.Fits.{report-room}
-use Rattle.replies.proofs.Laws.{replied, put_whole, put-never-refused}
+use Rattle.replies.proofs.Laws.{replied, put-whole_or}
 use Rattle.replies.proofs.report_of.Goals.{After-answer-arg-1}
 use Rattle.replies.proofs.report_of.Goals as goal
 
@@ -16,18 +16,11 @@ room c =
     let size : length c.args.out.now ≡ longest_text = c.told-out in
     omega (arith, size, report-room c.args.text.now)
 
-pub returns-in-Ok : goal.returns-in-Ok
-returns-in-Ok c =
+pub returns : goal.returns
+returns c =
     let w = c.answer in
     let t = answer_text c.args.text.now in
     let d = c.args.out.now in
-    let h = room (goal.at.returns-in-Ok c).After-answer-arg-1 in
-    let r = replied t d _ _ h (put_whole t d _ w.result h w.ensures.0 w.ensures.1 _ c.in-Ok.is) in
+    let h = room (goal.at.returns c).After-answer-arg-1 in
+    let r = replied t d _ _ h (rw c.unwrap_or.ensures (put-whole_or t d _ w.result h w.ensures.0 w.ensures.1)) in
     record { value = r.0; front = r.1 }
-
-pub returns-in-Err : goal.returns-in-Err
-returns-in-Err c =
-    let w = c.answer in
-    let t = answer_text c.args.text.now in
-    let h = room (goal.at.returns-in-Err c).After-answer-arg-1 in
-    absurd (put-never-refused t c.args.out.now _ w.result h w.ensures.0 w.ensures.1 _ c.in-Err.is)

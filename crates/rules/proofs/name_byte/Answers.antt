@@ -1,18 +1,22 @@
-use mathlib.Core.Path.{sym}
-use Rattle.rules.proofs.Names.{byte-hyphen, byte_low, byte-digit, byte-between, byte-letter}
+-- `name_byte` meets its contract: a letter, or else a digit, or else a hyphen.
+use mathlib.Core.Path.{sym, ◌∙◌}
+use mathlib.Core.Bool.{true≢false}
+use Rattle.words.proofs.Choice.{or-true, or-false}
+use Rattle.rules.proofs.Names.{letter_byte, other_byte}
+use Rattle.rules.proofs.name_byte.Goals.{then-is_ascii_lowercase, else-is_ascii_lowercase}
 use Rattle.rules.proofs.name_byte.Goals as goal
 
-pub returns-then-b-eq45 : goal.returns-then-b-eq45
-returns-then-b-eq45 c = sym (byte-hyphen _ c.if-b-eq45.true)
+pub returns-then-is_ascii_digit : goal.returns-then-is_ascii_digit
+returns-then-is_ascii_digit c = elim c.if-is_ascii_lowercase.branch [
+  | then-is_ascii_lowercase w ↦ c.if-is_ascii_digit.true ∙ sym (letter_byte c.args.b _ c.is_ascii_lowercase.ensures.cases w.if-is_ascii_lowercase.true)
+  | else-is_ascii_lowercase w ↦
+      c.if-is_ascii_digit.true
+      ∙ sym (other_byte c.args.b _ _ c.is_ascii_lowercase.ensures.cases w.is_ascii_digit.ensures.cases w.if-is_ascii_lowercase.false ∙ or-true _ (sym w.value-is ∙ c.if-is_ascii_digit.true))
+]
 
-pub returns-then-b-lt48 : goal.returns-then-b-lt48
-returns-then-b-lt48 c = sym (byte_low _ c.if-b-eq45.false c.if-b-lt48.true)
-
-pub returns-then-b-le57 : goal.returns-then-b-le57
-returns-then-b-le57 c = sym (byte-digit _ c.if-b-lt48.false c.if-b-le57.true)
-
-pub returns-then-b-lt97 : goal.returns-then-b-lt97
-returns-then-b-lt97 c = sym (byte-between _ c.if-b-eq45.false c.if-b-le57.false c.if-b-lt97.true)
-
-pub returns : goal.returns
-returns c = sym (byte-letter _ c.if-b-eq45.false c.if-b-lt97.false)
+pub returns-else-is_ascii_digit : goal.returns-else-is_ascii_digit
+returns-else-is_ascii_digit c = elim c.if-is_ascii_lowercase.branch [
+  | then-is_ascii_lowercase w ↦ absurd (true≢false (sym w.if-is_ascii_lowercase.true ∙ sym w.value-is ∙ c.if-is_ascii_digit.false))
+  | else-is_ascii_lowercase w ↦
+      sym (other_byte c.args.b _ _ c.is_ascii_lowercase.ensures.cases w.is_ascii_digit.ensures.cases w.if-is_ascii_lowercase.false ∙ or-false _ (sym w.value-is ∙ c.if-is_ascii_digit.false))
+]
