@@ -13,7 +13,7 @@ use refusals::Refusal;
 use table::{Row, Table};
 use ticks::{Instant, Length};
 
-// The time at a place of a row, C1 at 0; 0 behind the last. No Option: the row itself has zeros behind its times, as document 01 wants it.
+// The time at a place of a row, C1 at 0; 0 behind the last. No Option: a row has zeros behind its times, so that a 0 would tell the last stretch all the same.
 fn time_at(row: &Row, place: usize) -> Length
     ensures { result.0 ≡ time_at row.now place }
 {

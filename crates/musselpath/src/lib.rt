@@ -82,6 +82,7 @@ fn run_text(text: &[u8], ticks: u64, out: &mut [u64]) -> Result<(), Refusal>
 }
 
 // Puts the completion instants of the full run at the front of out, one for each row, and answers 0; or the refusal with its place, and out is unchanged.
+// One number, as that is what the C interface hands out.
 pub fn musselpath_full_run(text: &[u8], ticks: u64, out: &mut [u64]) -> u64
     ensures { (result ≡ run_answered text.now ticks out.old) × (out.new ≡ run_left text.now ticks out.old) }
 {

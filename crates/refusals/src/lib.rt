@@ -24,7 +24,7 @@ pub enum Refusal {
     ManyTicks,
 }
 
-// Three tables written out, and no derive: document 01 gives numbers, lines and fields that follow no order of the cases.
+// Three tables written out: a case that carries its line has no number of its own in the language, and lines and fields go by document 01.
 impl Refusal {
     pub fn number(self) -> u64
         ensures { result ≡ number_of self }

@@ -10,7 +10,7 @@ ghost use Rattle.refused.specs.Refused.{refused_line};
 use lines::{Field, Line};
 use refusals::Refusal;
 
-// The lowest of the refusals that have no place in a text.
+// The lowest of the refusals that have no place in a text. By number, as document 01 has it: a match would list all cases once more.
 const NO_PLACE: u64 = 20;
 
 // The first field, with zeros behind it.

@@ -103,7 +103,7 @@ pub fn reply(kind: Kind, item: &[u8], out: &mut [u8; LONGEST]) -> Option<usize>
     ensures value { (result ≡ option_map length (reply_to kind item.now)) × (out.new ≡ left_by (reply_to kind item.now) out.old) }
     ensures front { IfSome result (λ n. Front n out.new) }
 {
-    // A switch and no closure: the wrong versions `meaning_text_for_report` and `item_of_no_tick` are about this function's kinds.
+    // A switch and no closure: `reply_to`, which says what is answered, goes by the kinds, and so does the wrong version `meaning_text_for_report`.
     match kind {
         Kind::Report => Some(report_of(item, out)),
         Kind::Text => Some(text_of(item, out)),

@@ -74,49 +74,47 @@ pub fn read(text: &[u8]) -> Result<Table, Refusal>
     let mut table = Table::empty();
     // Whether the last row waits: then no line may follow.
     let mut waiting = false;
-    'lines: {
-        for (n, line) in lines.split(|b| *b == LINE_FEED).enumerate() {
-            // Lines and fields are numbered from 1.
-            let number = n + 1;
-            if n == Table::ROWS {
-                break 'lines Err(Refusal::ManyLines(number));
-            }
-            if waiting {
-                break 'lines Err(Refusal::AfterWaiting(number));
-            }
-            if !right_fields(count_fields(line)) {
-                break 'lines Err(Refusal::FieldCount(number));
-            }
-            let mut row = Row::empty();
-            for (i, field) in line.split(|b| *b == TAB).enumerate() {
-                let f = i + 1;
-                if f == 1 {
-                    if !rules::right_name(field) {
-                        break 'lines Err(Refusal::BadName(number));
-                    }
-                    row.name = name_bytes(field);
-                } else {
-                    match decimal::read(field, 1, Table::NUMBER) {
-                        Some(v) => row = with_number(row, f, v),
-                        None => break 'lines Err(Refusal::BadNumber(number, f)),
-                    }
+    for (n, line) in lines.split(|b| *b == LINE_FEED).enumerate() {
+        // Lines and fields are numbered from 1.
+        let number = n + 1;
+        if n == Table::ROWS {
+            return Err(Refusal::ManyLines(number));
+        }
+        if waiting {
+            return Err(Refusal::AfterWaiting(number));
+        }
+        if !right_fields(count_fields(line)) {
+            return Err(Refusal::FieldCount(number));
+        }
+        let mut row = Row::empty();
+        for (i, field) in line.split(|b| *b == TAB).enumerate() {
+            let f = i + 1;
+            if f == 1 {
+                if !rules::right_name(field) {
+                    return Err(Refusal::BadName(number));
+                }
+                row.name = name_bytes(field);
+            } else {
+                match decimal::read(field, 1, Table::NUMBER) {
+                    Some(v) => row = with_number(row, f, v),
+                    None => return Err(Refusal::BadNumber(number, f)),
                 }
             }
-            if row.period < row.deadline {
-                break 'lines Err(Refusal::LateDeadline(number));
-            }
-            if row.too_long() {
-                break 'lines Err(Refusal::LongTimes(number));
-            }
-            if table::named(&table.rows, n, row.name) {
-                break 'lines Err(Refusal::NameTaken(number));
-            }
-            waiting = row.waits();
-            table.rows[n] = row;
-            table.len = number;
         }
-        Ok(table)
+        if row.period < row.deadline {
+            return Err(Refusal::LateDeadline(number));
+        }
+        if row.too_long() {
+            return Err(Refusal::LongTimes(number));
+        }
+        if table::named(&table.rows, n, row.name) {
+            return Err(Refusal::NameTaken(number));
+        }
+        waiting = row.waits();
+        table.rows[n] = row;
+        table.len = number;
     }
+    Ok(table)
 }
 
 // A row's line: name, T, D, and the times.

@@ -111,8 +111,8 @@ returns-then-not-right_fields c =
     let k : right_fields (length (fields c.in-Some-2.line.now)) ≡ false = ap right_fields (sym c.count_fields.ensures) ∙ sym c.right_fields.ensures ∙ c.if-not-right_fields.true in
     ap reading_of (sym (refused-count (on_line (goal.at.returns-then-not-right_fields c).In-Some-2) c.if-n-eq-ROWS.false c.if-waiting.false k))
 
-pub returns-in-None : goal.returns-in-None
-returns-in-None c =
+pub returns : goal.returns
+returns c =
     let i = c.loop-n.invariant in
     ap Ok i.2.kept ∙ ap reading_of (sym (all_read i.2 (no_part _ _ _ c.next.result _ _ c.next.ensures.steps c.in-None.is i.1)))
 
