@@ -32,14 +32,14 @@ pub fn read(bytes: &[u8], lo: u64, hi: u64) -> Option<u64>
     Some(v)
 }
 
-// How many digits n has: 0 has one, though no power of ten is in it.
+// How many digits n has. Most numbers of a text have few, and a number of one digit needs no logarithm; 0 has none.
 pub fn width(n: u64) -> usize
     ensures { result ≡ length (digits n) }
 {
-    match n.checked_ilog10() {
-        Some(tens) => tens as usize + 1,
-        None => 1,
+    if n < 10 {
+        return 1;
     }
+    n.ilog10() as usize + 1
 }
 
 // Writes the digits of n at the front of out and answers how many there are; where out is too short for all of them, 0, and out stays as it was.

@@ -5,12 +5,12 @@ use mathlib.Core.List.{List, [], ◌∷◌, ◌++◌, map, append_assoc, append-
 use Prim.Native.Nat.{ℕ, zero, suc, ◌+◌, ◌-◌, ◌*◌, ◌≤◌, ◌<◌}
 use native.Mathlib.Omega.{arith}
 use native.Mathlib.Numerals.{add-one}
-use lib.ListN.{length, take, drop, length-append}
+use lib.ListN.{length, take, drop, get_or, length-append}
 use Rattle.words.specs.Lists.{all, below}
 use Rattle.words.specs.Buffer.{placed, fitted}
 use Rattle.words.proofs.Choice.{and_parts, and_both}
 use Rattle.words.proofs.Lists.{all_append}
-use Rattle.words.proofs.Filled.{map_below}
+use Rattle.words.proofs.Filled.{map_below, take_below}
 use Rattle.words.proofs.Put.{Put, spliced, put-fitted}
 use Rattle.fields.specs.Fields.{line_feed, tab, fields_text, line, joined}
 
@@ -49,6 +49,12 @@ pub line-length : (f : List ℕ) (fs : List (List ℕ)) → length (line f fs) �
 unfolding line
 line-length f fs = omega (arith, length-append (f ++ fields_text fs) (line_feed ∷ []), length-append f (fields_text fs))
 
+-- the two halves of a line, as they are written
+pub line-parts : (first : List ℕ) (fs gs : List (List ℕ)) → line first (fs ++ gs) ≡ first ++ fields_text fs ++ fields_text gs ++ (line_feed ∷ [])
+unfolding line
+line-parts first fs gs =
+    ap (λ (l : List ℕ). l ++ (line_feed ∷ [])) (ap (λ (l : List ℕ). first ++ l) (fields-append fs gs) ∙ sym (append_assoc first (fields_text fs) (fields_text gs)))
+
 -- what the tab and all bytes of the fields pass, their text does
 pub fields-all : (test : ℕ → Bool) (fs : List (List ℕ)) → test tab ≡ true → all (all test) fs ≡ true → all test (fields_text fs) ≡ true
 unfolding fields_text all
@@ -83,9 +89,19 @@ unfolding joined
 joined_snoc ls l = joined-append ls (l ∷ []) ∙ ap (λ (k : List ℕ). joined ls ++ k) (append-nil l)
 
 -- the first n + 1 of the lines at 0, 1, 2, ..
-joined-next : (line_at : ℕ → List ℕ) (n : ℕ) → joined (map line_at (below (n + 1))) ≡ joined (map line_at (below n)) ++ line_at n
+pub joined-next : (line_at : ℕ → List ℕ) (n : ℕ) → joined (map line_at (below (n + 1))) ≡ joined (map line_at (below n)) ++ line_at n
 joined-next line_at n =
     ap (λ k. joined (map line_at (below k))) (add-one n) ∙ ap joined (map_below line_at n) ∙ joined_snoc (map line_at (below n)) (line_at n)
+
+-- fields as parts of a text, each with its tab: the first n
+pub fields-below : {A : Type 0} (f : A → List ℕ) (xs : List A) (d : A) (n : ℕ) → n ≤ length xs
+    → fields_text (map f (take n xs)) ≡ joined (map (λ k. tab ∷ f (get_or xs k d)) (below n))
+unfolding fields_text joined
+fields-below {A} f xs d n h = parts (take n xs) ∙ ap joined (take_below (λ x. tab ∷ f x) xs d n h)
+  where
+    parts : (xs : List A) → fields_text (map f xs) ≡ joined (map (λ x. tab ∷ f x) xs)
+    parts [] = refl
+    parts (x ∷ xs) = ap (λ (l : List ℕ). tab ∷ f x ++ l) (parts xs)
 
 -- n lines of at most m bytes each have n times m bytes at most
 pub lines-length : (f : ℕ → List ℕ) (m n : ℕ) → ((k : ℕ) → k < n → length (f k) ≤ m) → length (joined (map f (below n))) ≤ n * m

@@ -2,8 +2,8 @@
 use mathlib.Core.Path.{◌≡◌, refl, sym, ap, ◌∙◌}
 use mathlib.Core.List.{List, [], ◌∷◌}
 use mathlib.Core.Logic.{◌⊎◌, inl, inr}
-use Prim.Native.Nat.{ℕ, zero, suc, ◌+◌, ◌-◌, ◌*◌, ◌≤◌, ◌<◌}
-use native.Mathlib.Nat.{mul-le-mul, mul-le-mul_right}
+use Prim.Native.Nat.{ℕ, zero, suc, ◌+◌, ◌-◌, ◌*◌, ◌/◌, ◌≤◌, ◌<◌}
+use native.Mathlib.Nat.{mul-le-mul, mul-le-mul_right, add-div_right}
 use native.Mathlib.Numerals.{add-one}
 use native.Mathlib.Decide.{dec_lt}
 use native.Mathlib.Omega.{arith}
@@ -14,7 +14,7 @@ use Rattle.recurrence.specs.Figures.{ceiling, arrivals, demand, right}
 use Rattle.figures.specs.Count.{safe_number, more_of}
 use Rattle.figures.specs.Work.{no_load, rows_from, right_below, Counted, CountedAt}
 use Rattle.figures.specs.declared.load.Load.{Load}
-use Rattle.recurrence.proofs.Arrivals.{ceiling-zero, ceiling-step, arrivals-zero, arrivals-most, arrivals-mono, arrivals-on}
+use Rattle.recurrence.proofs.Arrivals.{ceiling-zero, ceiling-step, arrivals-zero, arrivals-most, arrivals-mono, arrivals-reach, arrivals-on}
 use Rattle.recurrence.proofs.Recurrence.{demand-mono}
 
 -- the row at place j, as its load has it
@@ -116,6 +116,10 @@ module _ (rows : ℕ → Row) (k t i total : ℕ) (until : ℕ → ℕ) (some : 
         arrivals-on (rows i) (some i below) w.at t w.before
         ∙ ap (λ n. arrivals (rows i) w.at + ceiling (t - n) (rows i).period) (sym here)
 
+    -- the instant up to which its count holds lies less than T beyond the window
+    pub held-near : until i ≤ t + (rows i).period
+    held-near = omega (arith, w.left i (omega arith) below, arrivals-reach (rows i) (some i below) w.at, w.before)
+
     -- one row more, counted on; the others are counted as before
     pub halfway-next : (sum : ℕ) (then : ℕ → ℕ) → sum ≡ total + more * work (parts (rows i).times) → then i ≡ until i + more * (rows i).period
         → ((j : ℕ) → (j ≡ i → ⊥) → then j ≡ until j) → Halfway rows k t (i + 1) sum then
@@ -151,6 +155,17 @@ module _ (period : ℕ) (some : 1 ≤ period) where
       let x : suc (t - u - 1) ≡ t - u = omega arith in
       let y : suc (t - u - 1) - period ≡ t - (u + period) = omega arith in
       sym (ap (λ k. ceiling k period) x) ∙ ceiling-step period some (t - u - 1) ∙ ap (λ k. suc (ceiling k period)) y
+
+  -- the quotient of one less, and one, is the same
+  pub more-quotient : (u t : ℕ) → u < t → (t - u - 1) / period + 1 ≡ more_of u period t
+  unfolding more_of ceiling
+  more-quotient u t h =
+      let e : t - u - 1 + period ≡ t - u + (period - 1) = omega arith in
+      omega (arith, sym (ap (λ k. k / period) e) ∙ add-div_right (t - u - 1) some)
+
+  pub more-few : (u t : ℕ) → more_of u period t ≤ t
+  unfolding more_of arrivals
+  more-few u t = omega (arith, arrivals-most (record { name = []; period = period; deadline = 0; times = [] }) some (t - u))
 
   -- one release chosen or not, and the rest counted from there, is the same as all counted from `held`
   pub chosen : (held work t u a : ℕ) → ((held < t) × (u ≡ held + period) × (a ≡ work)) ⊎ ((t ≤ held) × (u ≡ held) × (a ≡ 0))

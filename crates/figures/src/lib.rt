@@ -1,7 +1,7 @@
 // The figures of a row and of a table: the recurrence with its rounds, whole, split and the verdicts.
 #![tactic(auto)]
 
-ghost use Rattle.std.specs.Prelude.{◌≡◌, ℕ, ◌*◌, ◌<◌, ◌≤◌, length, get_or};
+ghost use Rattle.std.specs.Prelude.{◌≡◌, ℕ, ◌-◌, ◌*◌, ◌<◌, ◌≤◌, length, get_or};
 ghost use Rattle.table.specs.Limits.{most_rows, most_times};
 ghost use Rattle.table.specs.Paper.{parts, work};
 ghost use Rattle.table.specs.Value.{row_of, no_value};
@@ -16,14 +16,14 @@ use load::Load;
 use refusals::Refusal;
 use table::{Row, Table};
 use ticks::Length;
-use verdicts::{TableVerdict, Verdict};
+use verdicts::{Figure, TableVerdict, Verdict};
 
 // The figures of a row.
 #[derive(Clone, Copy)]
 pub struct RowFigures {
     pub verdict: Verdict,
-    pub whole: Option<Length>,
-    pub split: Option<Length>,
+    pub whole: Figure,
+    pub split: Figure,
     pub rounds: u64,
 }
 
@@ -37,7 +37,7 @@ pub struct TableFigures {
 // What a recurrence came to, and how often its right side was worked out.
 #[derive(Clone, Copy)]
 struct Worked {
-    figure: Option<Length>,
+    figure: Figure,
     rounds: u64,
 }
 
@@ -84,18 +84,19 @@ fn loads_of(rows: &[Row]) -> [Load; Table::ROWS]
 
 // That the rows above are few stays a clause: a type that says so would be an array with a length beside it in place of a slice.
 
-// What the rows above ask for in a window of t ticks, where `sum` is what their counts come to so far: as t only rises, each row is
-// counted on from the instant up to which its count holds.
-fn demand_at(above: &mut [Load], t: u64, sum: u64) -> u64
-    requires { (length above.old ≤ most_rows) × (t ≤ safe_number) × Counted above.old t sum }
-    ensures counted { CountedAt above.new t result }
+// What the right side of a recurrence comes to at t, where t is what it came to before, or what the recurrence starts from: as t only
+// rises, each row above is counted on from the instant up to which its count holds, and what comes in is added to t. The c that the
+// recurrence started from is part of t, so the code needs none, and the contract holds at each.
+fn right_at(above: &mut [Load], t: u64) -> u64
+    requires { (length above.old ≤ most_rows) × (t ≤ safe_number) × ((c : ℕ) × (c ≤ t) × Counted above.old t (t - c)) }
+    ensures counted { (c : ℕ) → c ≤ t → Counted above.old t (t - c) → (c ≤ result) × CountedAt above.new t (result - c) }
     ensures same { rows_from above.new ≡ rows_from above.old }
 {
-    let mut total = sum;
+    let mut next = t;
     for load in above.iter_mut() {
-        total += load.count_on(t);
+        next += load.count_on(t);
     }
-    total
+    next
 }
 
 // The recurrence from c up to d, below the rows above.
@@ -107,13 +108,11 @@ fn solve(above: &mut [Load], c: u64, d: u64) -> Worked
     for load in above.iter_mut() {
         load.until = 0;
     }
-    let mut sum: u64 = 0;
     let mut t = c;
     let mut rounds: u64 = 0;
     loop {
         rounds += 1;
-        sum = demand_at(above, t, sum);
-        let next = c + sum;
+        let next = right_at(above, t);
         if next == t {
             return Worked {
                 figure: Some(Length(t)),

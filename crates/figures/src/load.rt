@@ -24,7 +24,8 @@ impl Load {
     };
 
     // Counts the row on until its count holds at t; the answer is what the releases that came in ask for. The first release is chosen
-    // without a branch, since whether a row has moved is hard to foresee; a division is made only where one release isn't enough.
+    // without a branch, since whether a row has moved is hard to foresee; a division is made only where one release isn't enough. With
+    // `div_ceil` in its place each row took an instruction more, divided or not.
     pub(crate) fn count_on(&mut self, t: u64) -> u64
         requires { t ≤ safe_number }
         ensures same { (self.new.period ≡ self.old.period) × (self.new.work ≡ self.old.work) }
@@ -41,7 +42,7 @@ impl Load {
             add = work;
         }
         if upto < t {
-            let more = (t - upto + (period - 1)) / period;
+            let more = (t - upto - 1) / period + 1;
             upto += more * period;
             add += more * work;
         }

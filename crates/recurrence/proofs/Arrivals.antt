@@ -81,6 +81,11 @@ module _ (r : Row) (some : 1 ≤ r.period) where
       go true e h = omega arith
       go false e h = omega arith
 
+  -- so many periods reach less than one beyond the window
+  pub arrivals-reach : (t : ℕ) → arrivals r t * r.period ≤ t + (r.period - 1)
+  unfolding arrivals ceiling
+  arrivals-reach t = div-mul-le_self (t + (r.period - 1)) r.period
+
   -- a count of releases holds up to the instant that many periods reach
   pub arrivals-held : (s t : ℕ) → s ≤ t → t ≤ arrivals r s * r.period → arrivals r t ≡ arrivals r s
   unfolding arrivals ceiling

@@ -29,7 +29,7 @@ use Rattle.figures.specs.Answers.{figures_of, table_verdict, answers, table_figu
 use Rattle.table.proofs.Used.{row_is, len_is, len-most}
 use Rattle.refused.specs.Refused.{refused_line}
 use Rattle.report.specs.Report.{row_line, last_line, report_text, answer_to, answer_text, reported, reported_into}
-use Rattle.report.specs.Parts.{no_answer, answer_line, lines_text, behind, said_line, report_lines}
+use Rattle.report.specs.Parts.{no_answer, answer_line, lines_text, said_line, report_lines}
 
 module _ (v : TableValue) (ok : well_formed v ≡ true) where
   abbrev t : Table
@@ -76,12 +76,12 @@ module _ (v : TableValue) (ok : well_formed v ≡ true) where
   unfolding report_text
   report-lines f e =
       let n : min v.len most_rows ≡ v.len = omega (arith, len-most v ok) in
-      let says : ℕ → List ℕ = λ k. said_line (get_or v.rows k no_value) (get_or (answers t) k behind) in
+      let says : ℕ → List ℕ = λ k. said_line (get_or v.rows k no_value) (get_or (answers t) k no_answer) in
       let last = last_line (table_verdict t) in
       ap (λ (g : TableFigures). joined (report_lines v g)) (figures-in f e)
       ∙ joined-append (map says (below (min v.len most_rows))) (last ∷ [])
       ∙ ap (λ m. joined (map says (below m)) ++ joined (last ∷ [])) n
-      ∙ ap (λ (l : List ℕ). l ++ joined (last ∷ [])) (lines_are said_line (λ w g. refl) behind)
+      ∙ ap (λ (l : List ℕ). l ++ joined (last ∷ [])) (lines_are said_line (λ w g. refl) no_answer)
       ∙ ap (λ (l : List ℕ). joined (map paper_line (below (length t))) ++ l) (joined-one last)
 
 -- the answers of writing

@@ -1,5 +1,5 @@
 -- The parts of a report, and its lines as the code has them. proofs/Tables shows that together they are `report_text`.
-use Rattle.std.specs.Prelude.{None, Result, Ok, Err, List, [], ◌∷◌, ◌++◌, map, ℕ, min, get_or}
+use Rattle.std.specs.Prelude.{Result, Ok, Err, List, [], ◌∷◌, ◌++◌, map, ℕ, min, get_or}
 use Rattle.words.specs.Lists.{below}
 use Rattle.fields.specs.Fields.{line, joined}
 use Rattle.refusals.specs.declared.Refusal.{Refusal}
@@ -10,9 +10,6 @@ use Rattle.table.specs.declared.Row.{Row as RowValue}
 use Rattle.table.specs.Limits.{most_rows}
 use Rattle.table.specs.declared.Table.{Table as TableValue}
 use Rattle.figures.specs.declared.TableFigures.{TableFigures}
-use Rattle.ticks.specs.Ticks.{long}
-use Rattle.verdicts.specs.declared.Bound.TheVariants.{Whole}
-use Rattle.verdicts.specs.declared.Verdict.TheVariants.{Fits}
 use Rattle.figures.specs.declared.RowFigures.{RowFigures}
 use Rattle.report.specs.Report.{row_line, last_line}
 
@@ -38,13 +35,9 @@ abbrev pub said_line : RowValue → Result RowFigures Refusal → List ℕ
 said_line v (Ok f) = row_line (row_of v) f
 said_line v (Err why) = line (row_of v).name []
 
--- what the language says to stand behind the end of an array of answers
-abbrev pub behind : Result RowFigures Refusal
-behind = Ok (record { verdict = Fits Whole (long 0); whole = None; split = None; rounds = 0 })
-
 -- what is said of row k, from 0
 abbrev pub said_at : TableValue → TableFigures → ℕ → List ℕ
-said_at v f k = said_line (get_or v.rows k no_value) (get_or f.rows k behind)
+said_at v f k = said_line (get_or v.rows k no_value) (get_or f.rows k no_answer)
 
 -- the lines of a report: those of the rows, no more than the arrays have, and the last line
 abbrev pub report_lines : TableValue → TableFigures → List (List ℕ)

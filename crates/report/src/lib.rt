@@ -14,14 +14,13 @@ use figures::{RowFigures, TableFigures};
 use lines::{Field, Line, Lines};
 use refusals::Refusal;
 use table::{Row, Table};
-use ticks::Length;
-use verdicts::{TableVerdict, Verdict};
+use verdicts::{Figure, TableVerdict, Verdict};
 
 // The most bytes of an answer to a text: 52 for each row's line, and 13 for the last.
 pub const LONGEST: usize = Table::ROWS * 52 + 13;
 
 // The figure with which a row fits. No `From`: a verdict has no figure as its value, and the word says which one is meant.
-fn figure_of(verdict: Verdict) -> Option<Length>
+fn figure_of(verdict: Verdict) -> Figure
     ensures { result ≡ figure_in verdict }
 {
     match verdict {
@@ -33,7 +32,7 @@ fn figure_of(verdict: Verdict) -> Option<Length>
 
 // A figure as a field. This and the next two are no `From`: that would have to stand in `lines` or `verdicts`, of which neither knows the other,
 // and how a verdict is written is the report's matter.
-fn figure_field(figure: Option<Length>) -> Field
+fn figure_field(figure: Figure) -> Field
     ensures { field_text result ≡ figure_text figure }
 {
     Field::from(figure.map(|length| length.0))
@@ -114,7 +113,9 @@ impl Lines for Report<'_> {
             return last_line(self.figures.verdict);
         }
         let row = self.table.rows[i];
-        let answer = self.figures.rows[i];
+        // 21 stands behind the end of an array of answers.
+        let answers = self.figures.rows.get(i).copied();
+        let answer = answers.unwrap_or(Err(Refusal::NoSuchRow));
         match answer {
             Ok(figures) => row_line(row, figures),
             Err(_) => Line::of(row.name, &[]),

@@ -4,7 +4,8 @@
 ghost use Rattle.std.specs.Prelude.{◌≡◌};
 ghost use Rattle.text.specs.Read.{read_text};
 ghost use Rattle.runs.specs.Runs.{ran_in, ran_into};
-ghost use Rattle.runs.specs.Parts.{run_lines};
+ghost use Rattle.lines.specs.Lines.{field_text};
+ghost use Rattle.runs.specs.Parts.{first_text, run_lines};
 
 use lines::{Field, Line, Lines};
 use refusals::Refusal;
@@ -13,6 +14,13 @@ use ticks::Instant;
 
 // The most bytes of a run's text: 21 for each row's line.
 pub const LONGEST: usize = Table::ROWS * 21;
+
+// A completion as a field.
+fn first_field(first: Option<Instant>) -> Field
+    ensures { field_text result ≡ first_text first }
+{
+    Field::from(first.map(|instant| instant.0))
+}
 
 // A run: its table, and what the machine noted of each row.
 #[derive(Clone, Copy)]
@@ -30,8 +38,7 @@ impl Lines for Run<'_> {
     }
 
     fn line(&self, i: usize) -> Line {
-        let first = self.firsts[i].map(|instant| instant.0);
-        Line::of(self.table.rows[i].name, &[Field::from(first)])
+        Line::of(self.table.rows[i].name, &[first_field(self.firsts[i])])
     }
 }
 

@@ -23,8 +23,9 @@ use Rattle.table.specs.Paper.{Row, Table, right_name, right_row, waits, named}
 use Rattle.table.specs.Value.{row_of, row_value, empty_row, table_of, table_value, empty_table, name_in}
 use Rattle.ticks.specs.Ticks.{ticks}
 use Rattle.table.proofs.Rules.{name-lacks, count_most}
-use Rattle.text.specs.Split.{fields}
+use Rattle.text.specs.Split.{lines, fields}
 use Rattle.text.specs.Read.{accepted, refused, got, bad, fixed_fields, right_fields, no_row, with_name, with_number, read_fields, check_row, read_line, read_lines, read_text}
+use Rattle.text.proofs.Split.{lines-some}
 use Rattle.text.proofs.Parts.{Parts, next_part}
 use Rattle.text.proofs.Steps.{fields-over, bad-name, next-name, bad-number, next-number, late-deadline, long-times, name-taken, row-checked, after-waiting, field-count, bad-field, row_read, lines-over, many-lines, bad-line, next-line}
 use Rattle.text.proofs.Lines.{right-row}
@@ -39,7 +40,7 @@ pub record AtLine (text : List ℕ) (v : TableValue) (waiting : Bool) (left : Li
   pub last : waiting ≡ any waits (table_of v)
   pub rest : read_text text ≡ read_lines (table_of v) left
 
-pub lines-begin : (text : List ℕ) (v : TableValue) (left : List (List ℕ)) → v ≡ empty_table → read_text text ≡ read_lines [] left → (v.len ≡ 0) × AtLine text v false left
+pub lines-begin : (text : List ℕ) (v : TableValue) (left : List (List ℕ)) → v ≡ empty_table → read_text text ≡ read_lines [] left → (0 ≡ v.len) × AtLine text v false left
 unfolding table_of table_value all any
 lines-begin text v left e r = rw e (refl, record { few = omega arith; kept = refl; right = refl; last = refl; rest = r })
 
@@ -52,24 +53,29 @@ pub record OnLine (text : List ℕ) (v : TableValue) (waiting : Bool) (n : ℕ) 
   pub at : AtLine text v waiting (l ∷ more)
   pub number : n ≡ v.len
 
--- a turn of the loop begins on a line, and goes on with those that follow it
-pub next_line : {S : Type 0} (steps : S → Option (ℕ × Bor (List ℕ)) → S → Type 0) (s t : S) (r : Option (ℕ × Bor (List ℕ))) (n : ℕ) (l : Bor (List ℕ)) → steps s r t → r ≡ Some (n, l)
-    → {text : List ℕ} {v : TableValue} {waiting : Bool} {left : List (List ℕ)} → Parts steps s v.len left → AtLine text v waiting left
-    → (a : OnLine text v waiting n l.now) × Parts steps t (n + 1) a.more
-next_line steps s t r n l h e {text} {v} {waiting} {left} p i =
-    let m = next_part steps s t r n l v.len left h e p in
-    (record { more = m.1; at = subst (AtLine text v waiting) m.2 i; number = m.0 }, subst (λ k. Parts steps t (k + 1) m.1) (sym m.0) m.3)
+module _ {text : List ℕ} {v : TableValue} {waiting : Bool} {n : ℕ} where
+  -- a turn of the loop reads the first line of what is left
+  abbrev pub next_line : {l : List ℕ} {left more : List (List ℕ)} → n ≡ v.len → AtLine text v waiting left → left ≡ l ∷ more → OnLine text v waiting n l
+  next_line {more = more} e i h = record { more = more; at = subst (AtLine text v waiting) h i; number = e }
+
+  -- where a byte is left, a line begins
+  pub some_line : (s : List ℕ) → (length s ≡ 0 → ⊥) → n ≡ v.len → AtLine text v waiting (lines s) → (l : List ℕ) × OnLine text v waiting n l
+  some_line s h = go (lines s) (lines-some s (omega (arith, h)))
+    where
+      go : (left : List (List ℕ)) → 0 < length left → n ≡ v.len → AtLine text v waiting left → (l : List ℕ) × OnLine text v waiting n l
+      go [] k e i = absurd (omega arith)
+      go (l ∷ more) k e i = (l, record { more = more; at = i; number = e })
 
 module _ {text : List ℕ} {v : TableValue} {waiting : Bool} {n : ℕ} {l : List ℕ} (a : OnLine text v waiting n l) where
   above : n ≡ length (table_of v)
   above = a.number ∙ table-length v a.at.kept
 
-  pub refused-many : n ≡ most_rows → read_text text ≡ refused (ManyLines (n + 1))
-  refused-many h = a.at.rest ∙ many-lines (table_of v) l a.more (sym above ∙ h) ∙ ap (λ (k : ℕ). refused (ManyLines (k + 1))) (sym above)
+  pub refused-many : n ≡ most_rows → read_text text ≡ refused (ManyLines (most_rows + 1))
+  refused-many h = a.at.rest ∙ many-lines (table_of v) l a.more (sym above ∙ h) ∙ ap (λ (k : ℕ). refused (ManyLines (k + 1))) (sym above ∙ h)
 
-  module _ (room : n ≡ most_rows → ⊥) where
+  module _ (room : n < most_rows) where
     refused-line : (x : Refusal) → read_line (n + 1) (table_of v) l ≡ bad x → read_text text ≡ refused x
-    refused-line x q = a.at.rest ∙ bad-line (table_of v) l a.more (λ k. room (above ∙ k)) x (rw (← above) q)
+    refused-line x q = a.at.rest ∙ bad-line (table_of v) l a.more (λ k. omega (arith, above)) x (rw (← above) q)
 
     pub refused-waiting : waiting ≡ true → read_text text ≡ refused (AfterWaiting (n + 1))
     refused-waiting w = refused-line _ (after-waiting (n + 1) (table_of v) l (sym a.at.last ∙ w))
@@ -149,7 +155,7 @@ module _ {line : List ℕ} {n : ℕ} {w : RowValue} {k : ℕ} {x : List ℕ} (a 
 -- once all fields of the line are read: w is the line's row
 pub record AtRow (text : List ℕ) (v : TableValue) (waiting : Bool) (n : ℕ) (l : List ℕ) (w : RowValue) : Type 0 where
   pub on : OnLine text v waiting n l
-  pub room : n ≡ most_rows → ⊥
+  pub room : n < most_rows
   pub only : waiting ≡ false
   pub count : right_fields (length (fields l)) ≡ true
   pub kept : Kept w
@@ -182,7 +188,7 @@ module _ {text : List ℕ} {v : TableValue} {waiting : Bool} {n : ℕ} {l : List
       unfolding all
       after-row s =
           let i = a.on.at in
-          let few : v.len < most_rows = omega (arith, a.on.number, a.room, i.few) in
+          let few : v.len < most_rows = omega (arith, a.on.number, a.room) in
           let size : v.len < length v.rows = omega (arith, rows-sized v i.kept i.few) in
           let t = table-next v w size in
           let g = fields_back (fields l) (n + 1) (row_of w) a.count a.row in
@@ -196,6 +202,6 @@ module _ {text : List ℕ} {v : TableValue} {waiting : Bool} {n : ℕ} {l : List
             last = sym (ap (any waits) t ∙ any_last waits (table_of v) (row_of w) (sym i.last ∙ a.only));
             rest =
                 i.rest
-                ∙ next-line (table_of v) l a.on.more (λ k. a.room (above a.on ∙ k)) (row_of w) (rw (← above a.on) read)
+                ∙ next-line (table_of v) l a.on.more (λ k. omega (arith, above a.on, a.room)) (row_of w) (rw (← above a.on) read)
                 ∙ ap (λ (u : Table). read_lines u a.on.more) (sym t);
           })

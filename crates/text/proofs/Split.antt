@@ -1,13 +1,14 @@
 -- Laws of lines and fields: that cutting at the byte gives them, and that put together again they are the text.
-use Rattle.std.specs.Prelude.{if◌then◌else◌}
-use Rattle.std.specs.List.{slice_split, onto_first}
+use Rattle.std.specs.Prelude.{MatchBool, if◌then◌else◌}
+use Rattle.std.specs.List.{slice_split, onto_first, AllWithin, IsFirstMatchOrLen}
+use Rattle.std.proofs.lemmas.List.{append_assoc, append-nil}
 use mathlib.Core.Path.{◌≡◌, refl, sym, ap, ◌∙◌}
 use mathlib.Core.Bool.{Bool, true, false, not, cond, false≢true}
 use mathlib.Core.List.{List, [], ◌∷◌, ◌++◌, map}
 use Prim.Native.Nat.{ℕ, suc, ◌+◌, ◌-◌, ◌<◌}
 use native.Mathlib.Omega.{arith}
 use lib.Dec.{eqb}
-use lib.ListN.{length, get_or, drop}
+use lib.ListN.{length, get_or, drop, length-append}
 use lib.Seq.{get_or-append_seam}
 use borrow.Author.Tests.{not-true, eqb-true, eqb-false, ne_eqb}
 use Rattle.words.specs.Lists.{all}
@@ -73,6 +74,11 @@ fields-text (x ∷ s) = go (eqb x tab) refl (fields s) (fields-text s)
 
 -- the lines of a text put together again
 
+pub lines-none : (s : List ℕ) → length s ≡ 0 → lines s ≡ []
+unfolding lines
+lines-none [] h = refl
+lines-none (x ∷ s) h = absurd (omega arith)
+
 pub lines-some : (s : List ℕ) → 0 < length s → 0 < length (lines s)
 unfolding lines on_first
 lines-some [] h = absurd (omega arith)
@@ -112,3 +118,33 @@ pub fields-parted : (fs : List (List ℕ)) (f : List ℕ) → all (lacks tab) (f
 unfolding fields fields_text all
 fields-parted [] f e = field-first f [] [] (and_parts e).0 refl
 fields-parted (g ∷ fs) f e = field-first f (tab ∷ g ++ fields_text fs) (g ∷ fs) (and_parts e).0 (ap (λ (l : List (List ℕ)). [] ∷ l) (fields-parted fs g (and_parts e).1))
+
+-- cutting a text once, at its first line feed
+
+lines-whole : (l : List ℕ) → 0 < length l → lacks line_feed l ≡ true → lines l ≡ l ∷ lines []
+unfolding lines on_first
+lines-whole [] h f = absurd (omega arith)
+lines-whole (x ∷ []) h f = rw (ne_eqb x line_feed (lacks-parts line_feed x [] f).0)
+lines-whole (x ∷ y ∷ l) h f = rw (ne_eqb x line_feed (lacks-parts line_feed x (y ∷ l) f).0, lines-whole (y ∷ l) (omega arith) (lacks-parts line_feed x (y ∷ l) f).1)
+
+lacks-before : (b : ℕ) (l rest : List ℕ) → AllWithin (λ x. eqb x b ≡ false) (l ++ rest) 0 (length l) → lacks b l ≡ true
+unfolding all
+lacks-before b [] rest h = refl
+lacks-before b (x ∷ l) rest h = and_both (ap not (h 0 0 (omega arith) (omega arith))) (lacks-before b l rest (λ k d z m. h (suc k) d (omega arith) (omega arith)))
+
+-- l goes up to the first line feed, behind which the rest stands, or to the end where there is none
+module _ (s l rest : List ℕ) (done : Bool) (cut : MatchBool done (s ≡ l) ((x : ℕ) × (s ≡ l ++ (x ∷ rest)))) (first : IsFirstMatchOrLen (λ b. eqb b line_feed) s (length l)) where
+  pub line-fed : done ≡ false → lines s ≡ l ∷ lines rest
+  line-fed e =
+      let c = rw e at cut in
+      let f = rw c.1 at first in
+      let x : eqb c.0 line_feed ≡ true = rw get_or-append_seam at (f.1 (simp length-append (omega arith)) 0) in
+      ap lines (c.1 ∙ ap (λ (y : ℕ). l ++ (y ∷ rest)) (eqb-true c.0 line_feed x) ∙ sym (append_assoc l (line_feed ∷ []) rest))
+      ∙ lines-ended l rest (lacks-before line_feed l (c.0 ∷ rest) f.0)
+
+  pub line-last : done ≡ true → 0 < length s → lines s ≡ s ∷ lines []
+  line-last e h =
+      let c = rw e at cut in
+      let f = rw (c ∙ sym (append-nil l)) at first in
+      let k : 0 < length l = omega (arith, ap length c) in
+      rw c (lines-whole l k (lacks-before line_feed l [] f.0))

@@ -4,9 +4,9 @@ use mathlib.Core.Bool.{true, false}
 use mathlib.Core.List.{List, [], ◌∷◌, ◌++◌, map}
 use Prim.Native.Nat.{ℕ, zero, suc, ◌+◌, ◌-◌, ◌≤◌, ◌<◌, min}
 use native.Mathlib.Omega.{arith}
-use lib.ListN.{length, get_or, take, set, replicate, length-map, length-take}
+use lib.ListN.{length, get_or, take, set, replicate}
 use lib.Seq.{take_all}
-use Rattle.words.proofs.Filled.{filled_next, filled-all}
+use Rattle.words.proofs.Filled.{filled_next}
 use borrow.Author.Tests.{le-leb}
 use Rattle.ticks.specs.declared.Length.{Length}
 use Rattle.words.specs.Lists.{below}
@@ -28,46 +28,45 @@ use Rattle.table.proofs.Used.{row_is, len_is, len-most}
 use Rattle.fields.specs.Fields.{line}
 use Rattle.lines.specs.declared.Field.{Field}
 use Rattle.lines.specs.declared.Field.TheVariants.{Number}
-use Rattle.lines.specs.Lines.{field_text, most_fields}
+use Rattle.lines.specs.Lines.{texts}
 use Rattle.text.specs.Parts.{row_lines}
 use Rattle.text.specs.Write.{line_text, table_text, length_in, written, written_into}
-use Rattle.std.specs.Prelude.{Result, Ok, Err}
+use Rattle.std.specs.Prelude.{Option, Some, None, Result, Ok, Err}
 use Rattle.text.proofs.Lines.{table-lines}
 
--- the fields of a line that the code makes: T, D, the first k times, and zeros
-abbrev pub number : Length → Field
-number l = Number l.0
+-- the fields of a line that the code makes: T, D and the first k of the times ts, and none behind them
+abbrev pub number : Length → Option Field
+number l = Some (Number l.0)
 
-abbrev pub made : RowValue → ℕ → List Field
-made v k = number v.period ∷ number v.deadline ∷ (map number (take k v.times) ++ replicate (most_times - k) (Number 0))
+abbrev pub made : RowValue → List Length → ℕ → List (Option Field)
+made v ts k = number v.period ∷ number v.deadline ∷ (map number (take k ts) ++ replicate (most_times - k) None)
 
 -- one time more
-pub made-next : (v : RowValue) (k : ℕ) (fs : List Field) → length v.times ≡ most_times → k < most_times → fs ≡ made v k
-    → set fs (k + 2) (number (get_or v.times k (long 0))) ≡ made v (k + 1)
-made-next v k fs n h e =
-    let y = number (get_or v.times k (long 0)) in
+pub made-next : (v : RowValue) (ts : List Length) (k : ℕ) (fs : List (Option Field)) → length ts ≤ most_times → k < length ts → fs ≡ made v ts k
+    → set fs (k + 2) (number (get_or ts k (long 0))) ≡ made v ts (k + 1)
+made-next v ts k fs n h e =
+    let y = number (get_or ts k (long 0)) in
     let s : k + 2 ≡ suc (suc k) = omega arith in
-    ap (λ xs. set xs (k + 2) y) e ∙ ap (λ j. set (made v k) j y) s
-    ∙ ap (λ xs. number v.period ∷ number v.deadline ∷ xs) (filled_next number (Number 0) v.times most_times k (long 0) _ y (omega arith) h refl refl)
+    ap (λ xs. set xs (k + 2) y) e ∙ ap (λ j. set (made v ts k) j y) s
+    ∙ ap (λ xs. number v.period ∷ number v.deadline ∷ xs) (filled_next number None ts most_times k (long 0) _ y h (omega arith) refl refl)
+
+no-texts : (m : ℕ) → texts (replicate m None) ≡ []
+no-texts zero = refl
+no-texts (suc m) = no-texts m
 
 -- the first n times have the same digits as fields
-texts-are : (ts : List Length) (n : ℕ) → map field_text (take n (map number ts)) ≡ map digits (take n (map ticks ts))
-texts-are ts zero = refl
-texts-are [] (suc n) = refl
-texts-are (t ∷ ts) (suc n) = ap (λ (l : List (List ℕ)). digits t.0 ∷ l) (texts-are ts n)
+texts-are : (ts : List Length) (n m : ℕ) → texts (map number (take n ts) ++ replicate m None) ≡ map digits (take n (map ticks ts))
+texts-are ts zero m = no-texts m
+texts-are [] (suc n) m = no-texts m
+texts-are (t ∷ ts) (suc n) m = ap (λ (l : List (List ℕ)). digits t.0 ∷ l) (texts-are ts n m)
 
--- with all times the line is made, where n of them are in use
-pub made-line : (v : RowValue) (k n : ℕ) (fs : List Field) → length v.times ≡ most_times → most_times ≤ k → fs ≡ made v k → n ≡ length (row_of v).times
-    → line (row_of v).name (map field_text (take most_fields (take (n + 2) fs))) ≡ line_text (row_of v)
+-- with all times in use the line is made
+pub made-line : (v : RowValue) (k n : ℕ) (fs : List (Option Field)) → length (take n v.times) ≤ k → fs ≡ made v (take n v.times) k → n ≡ length (row_of v).times
+    → line (row_of v).name (texts fs) ≡ line_text (row_of v)
 unfolding line_text
-made-line v k n fs l h e w =
-    let xs = map number v.times in
-    let f : fs ≡ number v.period ∷ number v.deadline ∷ xs = e ∙ ap (λ ys. number v.period ∷ number v.deadline ∷ ys) (filled-all number (Number 0) v.times most_times k _ l h refl) in
-    let s : n + 2 ≡ suc (suc n) = omega arith in
-    let short : length (take n xs) ≤ 7 = simp length-take (omega (arith, length-map v.times number)) in
-    let texts = take_all 7 (take n xs) short in
-    let told = texts-are v.times n ∙ ap (map digits) (times-front v n w) in
-    rw (f, s, texts, told)
+made-line v k n fs h e w =
+    let told = texts-are v.times n (most_times - k) ∙ ap (map digits) (times-front v n w) in
+    rw (e, take_all k (take n v.times) h, told)
 
 -- a well-formed table value
 module _ (v : TableValue) (ok : well_formed v ≡ true) where
@@ -93,6 +92,14 @@ pub written-right : (v : TableValue) (d : List ℕ) → well_formed v ≡ true
     → (written v d ≡ length_in (table_text (table_of v)) d) × (written_into v d ≡ placed (table_text (table_of v)) d)
 unfolding written written_into
 written-right v d e = (if-true _ _ e, if-true _ _ e)
+
+-- what is made of a right table's lines is the answer and the buffer
+pub write_right : (v : TableValue) (d e : List ℕ) (r : Result ℕ Refusal) → well_formed v ≡ true
+    → (r ≡ length_in (joined (row_lines v)) d) × (e ≡ placed (joined (row_lines v)) d) → (r ≡ written v d) × (e ≡ written_into v d)
+write_right v d e r ok h =
+    let w = written-right v d ok in
+    let m = rw (lines_are v ok) at h in
+    (m.0 ∙ sym w.0, m.1 ∙ sym w.1)
 
 pub written-whole : (v : TableValue) (d : List ℕ) → well_formed v ≡ true → length (table_text (table_of v)) ≤ length d
     → (written v d ≡ Ok (length (table_text (table_of v)))) × (written_into v d ≡ over (table_text (table_of v)) d)

@@ -1,11 +1,11 @@
 // The text of a table: read line by line and field by field, and written into a lent buffer.
 #![tactic(auto)]
 
-ghost use Rattle.std.specs.Prelude.{◌≡◌, suc, ◌+◌, ◌-◌, ◌≤◌, length};
+ghost use Rattle.std.specs.Prelude.{◌≡◌, ◌∷◌, suc, ◌+◌, ◌-◌, ◌≤◌, ◌<◌, length};
 ghost use Rattle.words.specs.Lists.{padded};
 ghost use Rattle.table.specs.Limits.{most_times, longest_name};
 ghost use Rattle.table.specs.Value.{row_of, row_value};
-ghost use Rattle.text.specs.Split.{fields};
+ghost use Rattle.text.specs.Split.{lines, fields};
 ghost use Rattle.text.specs.Read.{fixed_fields, right_fields, with_number, read_text, reading_of};
 ghost use Rattle.lines.specs.Lines.{line_of};
 ghost use Rattle.text.specs.Write.{line_text, written, written_into};
@@ -57,12 +57,24 @@ fn with_number(mut row: Row, f: usize, n: u64) -> Row
     row
 }
 
+// The first line of a text, and what is behind its line feed.
+fn first_line(text: &[u8]) -> (&[u8], &[u8])
+    requires { 0 < length text.now }
+    ensures { lines text.now ≡ result.0.now ∷ lines result.1.now }
+{
+    let mut parts = text.splitn(2, |b| *b == LINE_FEED);
+    match (parts.next(), parts.next()) {
+        (Some(line), Some(behind)) => (line, behind),
+        _ => (text, &[]),
+    }
+}
+
 // Reads a text: the first bad field of the first bad line ends it.
 pub fn read(text: &[u8]) -> Result<Table, Refusal>
     ensures { result ≡ reading_of (read_text text.now) }
 {
-    // The first three refusals look at the whole text. What is then cut into lines lacks the last line feed, behind which there is no line.
-    let Some((last, lines)) = text.split_last() else {
+    // The first three refusals look at the whole text.
+    let Some(last) = text.last() else {
         return Err(Refusal::NoText);
     };
     if Table::TEXT < text.len() {
@@ -74,60 +86,74 @@ pub fn read(text: &[u8]) -> Result<Table, Refusal>
     let mut table = Table::empty();
     // Whether the last row waits: then no line may follow.
     let mut waiting = false;
-    for (n, line) in lines.split(|b| *b == LINE_FEED).enumerate() {
-        // Lines and fields are numbered from 1.
-        let number = n + 1;
-        if n == Table::ROWS {
-            return Err(Refusal::ManyLines(number));
-        }
-        if waiting {
-            return Err(Refusal::AfterWaiting(number));
-        }
-        if !right_fields(count_fields(line)) {
-            return Err(Refusal::FieldCount(number));
-        }
-        let mut row = Row::empty();
-        for (i, field) in line.split(|b| *b == TAB).enumerate() {
-            let f = i + 1;
-            if f == 1 {
-                if !rules::right_name(field) {
-                    return Err(Refusal::BadName(number));
-                }
-                row.name = name_bytes(field);
-            } else {
-                match decimal::read(field, 1, Table::NUMBER) {
-                    Some(v) => row = with_number(row, f, v),
-                    None => return Err(Refusal::BadNumber(number, f)),
+    // What is left of the text. A line is cut off it only once it may follow: one that may not is refused unread, however long it is.
+    let mut rest = text;
+    // A refusal leaves both loops.
+    'lines: {
+        for n in 0..Table::ROWS {
+            if rest.is_empty() {
+                break;
+            }
+            // Lines and fields are numbered from 1.
+            let number = n + 1;
+            if waiting {
+                break 'lines Err(Refusal::AfterWaiting(number));
+            }
+            let (line, behind) = first_line(rest);
+            if !right_fields(count_fields(line)) {
+                break 'lines Err(Refusal::FieldCount(number));
+            }
+            let mut row = Row::empty();
+            for (i, field) in line.split(|b| *b == TAB).enumerate() {
+                let f = i + 1;
+                if f == 1 {
+                    if !rules::right_name(field) {
+                        break 'lines Err(Refusal::BadName(number));
+                    }
+                    row.name = name_bytes(field);
+                } else {
+                    match decimal::read(field, 1, Table::NUMBER) {
+                        Some(v) => row = with_number(row, f, v),
+                        None => break 'lines Err(Refusal::BadNumber(number, f)),
+                    }
                 }
             }
+            if row.period < row.deadline {
+                break 'lines Err(Refusal::LateDeadline(number));
+            }
+            if row.too_long() {
+                break 'lines Err(Refusal::LongTimes(number));
+            }
+            if table::named(&table.rows, n, row.name) {
+                break 'lines Err(Refusal::NameTaken(number));
+            }
+            waiting = row.waits();
+            table.rows[n] = row;
+            table.len = number;
+            rest = behind;
         }
-        if row.period < row.deadline {
-            return Err(Refusal::LateDeadline(number));
+        if rest.is_empty() {
+            Ok(table)
+        } else {
+            Err(Refusal::ManyLines(Table::ROWS + 1))
         }
-        if row.too_long() {
-            return Err(Refusal::LongTimes(number));
-        }
-        if table::named(&table.rows, n, row.name) {
-            return Err(Refusal::NameTaken(number));
-        }
-        waiting = row.waits();
-        table.rows[n] = row;
-        table.len = number;
     }
-    Ok(table)
 }
 
 // A row's line: name, T, D, and the times.
 fn line(row: Row) -> Line
     ensures { line_of result ≡ line_text (row_of row) }
 {
-    let mut fields = [Field::Number(0); Line::FIELDS];
-    fields[0] = Field::Number(row.period.0);
-    fields[1] = Field::Number(row.deadline.0);
-    for (i, time) in row.times.iter().enumerate() {
-        fields[i + 2] = Field::Number(time.0);
+    let mut fields = [None; Line::FIELDS];
+    fields[0] = Some(Field::Number(row.period.0));
+    fields[1] = Some(Field::Number(row.deadline.0));
+    for (i, time) in row.times[..row.count()].iter().enumerate() {
+        fields[i + 2] = Some(Field::Number(time.0));
     }
-    Line::of(row.name, &fields[..row.count() + 2])
+    Line {
+        head: row.name,
+        fields,
+    }
 }
 
 // The rows of a table.

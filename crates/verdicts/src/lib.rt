@@ -7,6 +7,9 @@ ghost use Rattle.verdicts.specs.Verdicts.{figure_of, number_in, at_most, single,
 use refusals::Refusal;
 use ticks::Length;
 
+// A figure as a value: a length of time, where there is one.
+pub type Figure = Option<Length>;
+
 // Which of the two bounds gave a figure.
 #[derive(Clone, Copy)]
 pub enum Bound {
@@ -31,14 +34,14 @@ pub enum TableVerdict {
 }
 
 // A bound above D is no figure.
-pub fn at_most(d: Length, bound: Option<Length>) -> Option<Length>
+pub fn at_most(d: Length, bound: Figure) -> Figure
     ensures { result ≡ figure_of (at_most d.0 (number_in bound)) }
 {
     bound.filter(|b| *b <= d)
 }
 
 // The verdict of a row with one C.
-pub fn of_one_stretch(whole: Option<Length>) -> Verdict
+pub fn of_one_stretch(whole: Figure) -> Verdict
     ensures { result ≡ single (number_in whole) }
 {
     match whole {
@@ -48,7 +51,7 @@ pub fn of_one_stretch(whole: Option<Length>) -> Verdict
 }
 
 // The verdict of a waiting row.
-pub fn of_waiting(whole: Option<Length>, split: Option<Length>) -> Verdict
+pub fn of_waiting(whole: Figure, split: Figure) -> Verdict
     ensures { result ≡ lesser (number_in whole) (number_in split) }
 {
     match (whole, split) {

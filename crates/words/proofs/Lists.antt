@@ -117,6 +117,17 @@ pub length-padded : (n : ℕ) (xs : List ℕ) → length xs ≤ n → length (pa
 unfolding padded
 length-padded n xs h = omega (arith, length-append xs (replicate (n - length xs) 0), length-replicate {A = ℕ} (n - length xs) 0)
 
+-- two lists of the same length, compared from the front
+
+pub same_at : (xs ys : List ℕ) (i : ℕ) → i < length xs → i < length ys
+    → same (drop i xs) (drop i ys) ≡ (eqb (get_or xs i 0) (get_or ys i 0) and same (drop (i + 1) xs) (drop (i + 1) ys))
+unfolding same
+same_at xs ys i h k = rw (drop-cons xs i 0 h, drop-cons ys i 0 k, add-one)
+
+pub same_end : (xs ys : List ℕ) (i : ℕ) → length xs ≤ i → length ys ≤ i → same (drop i xs) (drop i ys) ≡ true
+unfolding same
+same_end xs ys i h k = rw (drop_of_length-le xs h, drop_of_length-le ys k)
+
 -- a list is its part before the first b, and the rest
 pub up_to-rest : (b : ℕ) (xs : List ℕ) → up_to b xs ++ drop (length (up_to b xs)) xs ≡ xs
 up_to-rest b xs = ap (λ (l : List ℕ). l ++ drop (length (up_to b xs)) xs) (sym (take-up_to b xs)) ∙ take-append-drop (length (up_to b xs)) xs

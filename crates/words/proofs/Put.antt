@@ -40,7 +40,10 @@ put-part {bs} {d} {x} {at} cs y r p h e =
     put-over (bs ++ cs) d (spliced x at y) (at + r) (omega (arith, l, p.end, e.0))
     (rw e.1 (over-part bs cs d x at (length x - at) p.front p.end refl h)) (omega (arith, l))
 
--- what is put next has the room that is left
+-- what is put next lies within the buffer, and has the room that is left
+pub put-within : {bs d x : List ℕ} {at : ℕ} → Put bs d x at → length bs ≤ length d → at ≤ length x
+put-within p h = omega (arith, p.end, p.kept)
+
 pub put-room : {bs d x : List ℕ} {at : ℕ} (m : ℕ) → Put bs d x at → length bs + m ≤ length d → m ≤ length (take (length x - at) (drop at x))
 put-room {bs} {d} {x} {at} m p h = part_room x at m (omega (arith, p.end, p.kept))
 

@@ -3,8 +3,8 @@ use native.Mathlib.Omega.{arith}
 use Rattle.decimal.proofs.Digits.{length-between, length-small}
 use Rattle.decimal.proofs.width.Goals as goal
 
-pub returns-in-Some : goal.returns-in-Some
-returns-in-Some c = length-between c.in-Some.tens c.args.n c.in-Some.ensures.power_le c.in-Some.ensures.next_power_gt
+pub returns-then-n-lt10 : goal.returns-then-n-lt10
+returns-then-n-lt10 c = omega (arith, length-small c.args.n (omega arith))
 
-pub returns-in-None : goal.returns-in-None
-returns-in-None c = omega (arith, length-small c.args.n (omega (arith, c.in-None.ensures.none)))
+pub returns : goal.returns
+returns c = omega (arith, length-between c.ilog10.result c.args.n c.ilog10.ensures.power_le c.ilog10.ensures.next_power_gt)

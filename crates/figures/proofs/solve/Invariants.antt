@@ -11,7 +11,7 @@ invariant-loop-load l = (rows_from l.above ≡ rows_from l.initial.above) × ((j
 
 abbrev pub invariant-loop-t : goal.invariant-loop-t
 invariant-loop-t l =
-    (rows_from l.above ≡ rows_from l.fn.above) × Counted l.above l.t l.sum × Going (right_below l.fn.above l.c) l.d l.c l.t l.rounds
+    (rows_from l.above ≡ rows_from l.fn.above) × Counted l.above l.t (l.t - l.c) × Going (right_below l.fn.above l.c) l.d l.c l.t l.rounds
 
 abbrev pub decreases-loop-t : goal.decreases-loop-t
 decreases-loop-t l = l.d - l.t

@@ -1,6 +1,8 @@
 -- `write` meets its contract.
 use mathlib.Core.Path.{sym, ◌∙◌}
-use Rattle.text.proofs.Writer.{lines_are, written-bad, written-right}
+use borrow.Author.Rules.{rules}
+use borrow.Author.Tests.{tests}
+use Rattle.text.proofs.Writer.{written-bad, write_right}
 use Rattle.text.proofs.write.Goals as goal
 
 pub returns-then-not-well_formed : goal.returns-then-not-well_formed
@@ -11,8 +13,5 @@ returns-then-not-well_formed c =
 
 pub returns : goal.returns
 returns c =
-    let a = c.args in
     let ok = sym c.well_formed-2.ensures ∙ c.if-not-well_formed.false in
-    let w = written-right a.table a.out.now ok in
-    let h = rw (lines_are a.table ok) at c.write.ensures in
-    (h.0 ∙ sym w.0, h.1 ∙ sym w.1)
+    write_right c.args.table c.args.out.now _ _ ok (search (rules, tests))

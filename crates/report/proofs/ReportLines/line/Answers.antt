@@ -3,6 +3,8 @@ use mathlib.Core.Path.{◌≡◌, sym, ap, ◌∙◌}
 use Prim.Native.Nat.{◌<◌, min}
 use native.Mathlib.Omega.{arith}
 use lib.ListN.{get_or}
+use borrow.Author.Rules.{rules}
+use borrow.Author.Tests.{tests}
 use Rattle.std.specs.Prelude.{Result, Ok, Err}
 use mathlib.Core.List.{[]}
 use Rattle.refusals.specs.declared.Refusal.{Refusal}
@@ -11,7 +13,7 @@ use Rattle.table.specs.Limits.{most_rows}
 use Rattle.table.specs.Value.{no_value}
 use Rattle.lines.proofs.Laws.{lines-count-last, line-at-front, line-at-last}
 use Rattle.report.specs.Report.{last_line}
-use Rattle.report.specs.Parts.{behind, said_line, said_at, report_lines}
+use Rattle.report.specs.Parts.{no_answer, said_line, said_at, report_lines}
 use Rattle.report.proofs.ReportLines.line.Goals.{Else-i-rows}
 use Rattle.report.proofs.ReportLines.line.Goals as goal
 
@@ -32,14 +34,8 @@ offset_bounds-self-i c = omega (arith, within c)
 pub bounds-self-i : goal.bounds-self-i
 bounds-self-i c = omega (arith, within (goal.at.bounds-self-i c).Else-i-rows)
 
-pub offset_bounds-self-i-2 : goal.offset_bounds-self-i-2
-offset_bounds-self-i-2 c = omega (arith, within (goal.at.offset_bounds-self-i-2 c).Else-i-rows)
-
-pub bounds-self-i-2 : goal.bounds-self-i-2
-bounds-self-i-2 c = omega (arith, within (goal.at.bounds-self-i-2 c).Else-i-rows)
-
 -- the line at that place is what is said of the row
-row-at : (c : Else-i-rows) (a : Result RowFigures Refusal) → get_or c.args.self.now.figures.now.rows c.args.i behind ≡ a
+row-at : (c : Else-i-rows) (a : Result RowFigures Refusal) → get_or c.args.self.now.figures.now.rows c.args.i no_answer ≡ a
     → said_line (get_or c.args.self.now.table.now.rows c.args.i no_value) a ≡ get_or (report_lines c.args.self.now.table.now c.args.self.now.figures.now) c.args.i []
 row-at c a e =
     let v = c.args.self.now.table.now in
@@ -47,7 +43,7 @@ row-at c a e =
     ap (said_line (get_or v.rows c.args.i no_value)) (sym e) ∙ sym (line-at-front (said_at v f) (min v.len most_rows) (last_line f.verdict) c.args.i (within c))
 
 pub returns-in-Ok : goal.returns-in-Ok
-returns-in-Ok c = c.row_line.ensures ∙ row-at (goal.at.returns-in-Ok c).Else-i-rows (Ok c.in-Ok.figures) c.in-Ok.is
+returns-in-Ok c = c.row_line.ensures ∙ row-at (goal.at.returns-in-Ok c).Else-i-rows (Ok c.in-Ok.figures) (search (rules, tests))
 
 pub returns-in-Err : goal.returns-in-Err
-returns-in-Err c = c.of.ensures ∙ row-at (goal.at.returns-in-Err c).Else-i-rows (Err c.in-Err.field-0) c.in-Err.is
+returns-in-Err c = c.of.ensures ∙ row-at (goal.at.returns-in-Err c).Else-i-rows (Err c.in-Err.field-0) (search (rules, tests))

@@ -1,19 +1,14 @@
 -- `Run::line` meets its contract: the line of a row is its name and its completion.
-use mathlib.Core.Path.{◌≡◌, refl, sym, ap, ◌∙◌}
+use mathlib.Core.Path.{sym, ap, ◌∙◌}
 use mathlib.Core.List.{[], ◌∷◌}
 use lib.ListN.{get_or}
-use borrow.Author.Rules.{rules}
-use Rattle.std.specs.Prelude.{Option, Some, None}
-use Rattle.std.specs.Option.{option_map}
 use Rattle.fields.specs.Fields.{line}
-use Rattle.lines.specs.Lines.{field_of, field_text}
-use Rattle.ticks.specs.declared.Instant.{Instant}
 use Rattle.table.specs.Value.{no_value, row_of}
 use Prim.Native.Nat.{◌<◌, min}
 use native.Mathlib.Omega.{arith}
 use Rattle.table.specs.Limits.{most_rows}
 use Rattle.lines.proofs.Laws.{lines-count, line-at}
-use Rattle.runs.specs.Parts.{first_text, line_at}
+use Rattle.runs.specs.Parts.{line_at}
 use Rattle.runs.proofs.RunLines.line.Goals.{Start}
 use Rattle.runs.proofs.RunLines.line.Goals as goal
 
@@ -35,17 +30,9 @@ offset_bounds-self-i-2 c = omega (arith, within (goal.at.offset_bounds-self-i-2 
 pub bounds-self-i-2 : goal.bounds-self-i-2
 bounds-self-i-2 c = omega (arith, within (goal.at.bounds-self-i-2 c).Start)
 
--- a completion as the machine has it, and as a field
-first-same : (o : Option Instant) → field_text (field_of (option_map (λ i. i.0) o)) ≡ first_text o
-first-same (Some i) = refl
-first-same None = refl
-
 pub returns : goal.returns
 returns c =
     let r = c.args.self.now in
-    let o = get_or r.firsts.now c.args.i None in
     let name = (row_of (get_or r.table.now.rows c.args.i no_value)).name in
-    let k : c.map-first.result ≡ option_map (λ i. i.0) o = search rules in
-    let f : field_text c.from.result ≡ first_text o = ap field_text (c.from.ensures ∙ ap field_of k) ∙ first-same o in
-    c.of.ensures ∙ ap (λ l. line name (l ∷ [])) f
+    c.of.ensures ∙ ap (λ l. line name (l ∷ [])) c.first_field.ensures
     ∙ sym (line-at (line_at r.table.now.rows r.firsts.now) (min r.table.now.len most_rows) c.args.i (within (goal.at.returns c).Start))

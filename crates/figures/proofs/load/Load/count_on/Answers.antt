@@ -1,11 +1,11 @@
 -- `count_on` meets its contract: one release chosen or not, and the rest divided out, is all that came in since.
-use mathlib.Core.Path.{◌≡◌, ap}
+use mathlib.Core.Path.{◌≡◌, ap, ◌∙◌}
 use mathlib.Core.Logic.{◌⊎◌, inl, inr}
 use Prim.Native.Nat.{ℕ, ◌+◌, ◌*◌, ◌≤◌, ◌<◌}
 use native.Mathlib.Omega.{arith}
 use Rattle.recurrence.specs.Figures.{ceiling}
 use Rattle.figures.specs.Count.{more_of}
-use Rattle.figures.proofs.Counting.{more-none, chosen}
+use Rattle.figures.proofs.Counting.{more-none, more-quotient, chosen}
 use Rattle.figures.proofs.load.Load.count_on.Goals.{Joined-upto-t, then-held-t, else-held-t, then-upto-t, else-upto-t}
 use Rattle.figures.proofs.load.Load.count_on.Goals as goal
 
@@ -30,7 +30,13 @@ counted c =
     let s = c.args.self.now in
     both s.period s.until s.work c.args.t c.if-held-t.upto c.if-held-t.add c.if-upto-t.upto c.if-upto-t.add s.some
     (elim c.if-held-t.branch [ then-held-t w ↦ inl (w.if-held-t.true, w.upto-is, w.add-is) | else-held-t w ↦ inr (w.if-held-t.false, w.upto-is, w.add-is) ])
-    (elim c.if-upto-t.branch [ then-upto-t w ↦ inl (w.if-upto-t.true, w.upto-is, w.add-is) | else-upto-t w ↦ inr (w.if-upto-t.false, w.upto-is, w.add-is) ])
+    (elim c.if-upto-t.branch [
+      | then-upto-t w ↦ (
+          let more = more-quotient s.period s.some c.if-held-t.upto c.args.t w.if-upto-t.true in
+          inl (w.if-upto-t.true, w.upto-is ∙ ap (λ n. c.if-held-t.upto + n * s.period) more, w.add-is ∙ ap (λ n. c.if-held-t.add + n * s.work) more)
+          )
+      | else-upto-t w ↦ inr (w.if-upto-t.false, w.upto-is, w.add-is)
+    ])
 
 pub returns-clause-until : goal.returns-clause-until
 returns-clause-until c = (counted (goal.at.returns-clause-until c).Joined-upto-t).0
